@@ -1,0 +1,6 @@
+pub mod Classes
+pub mod Runs
+pub mod Steps
+pub mod Numbers
+pub mod Firsts
+pub mod Views

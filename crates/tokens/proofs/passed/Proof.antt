@@ -1,0 +1,58 @@
+-- `tokens::passed` meets its contract: the tokens at a blank are those after it, and the tokens at a comment those at its newline.
+-- Assumes nothing.
+use Prim.Native.Nat.{ℕ, _+_, _≤_}
+use mathlib.Core.Path.{_≡_, _∙_, ap, sym}
+use native.Mathlib.Omega.{arith}
+use lib.ListN.{drop, length-drop}
+use denote.Ref.{now}
+use Rattle.text.specs.Bytes.{span}
+use Rattle.tokens.specs.Class.{classBetween}
+use Rattle.tokens.specs.Lex.{tokensAt}
+use Rattle.tokens.proofs.Runs.{span-most}
+use Rattle.tokens.proofs.Steps.{past-blank, past-comment}
+use borrow.Author.Needs.{needs}
+use Rattle.tokens.proofs.passed.Statement.{statement}
+use Rattle.tokens.proofs.passed.Tie as tie
+use Rattle.tokens.proofs.passed.Reads as reads
+use Rattle.tokens.proofs.passed.Lts as lts
+use Rattle.tokens.proofs.run_end.Reads as run-end-reads
+
+-- src/lib.rt:102:16
+add-result : tie.Need-add-result
+add-result c = search needs
+
+-- src/lib.rt:102:9
+returns : tie.Need-returns
+returns c =
+    let a = c .before .before .args in
+    let p = c .before .before .pre .1 in
+    record {
+      same = past-blank (now (a .text)) (a .at) (p .inside) (sym (p .class-is) ∙ c .if1 .taken);
+      further = omega arith;
+      within = omega (arith, p .inside);
+    }
+
+-- src/lib.rt:104:28
+add-run-end : tie.Need-add-run-end
+add-run-end c = search needs
+
+-- src/lib.rt:104:5
+run-end-requires : tie.Need-run-end-requires
+run-end-requires c κs = search needs
+
+-- src/lib.rt:97:1
+returns-2 : tie.Need-returns-2
+returns-2 c =
+    let a = c .before .before .before .args in
+    let p = c .before .before .before .pre .1 in
+    let r : c .run-end .result ≡ a .at + 1 + span (classBetween 1 9) (drop (a .at + 1) (now (a .text))) = c .run-end .ensures in
+    let five : a .class ≡ 5 = omega (arith, p .least, p .most, c .before .if1 .left) in
+    record {
+      same =
+          past-comment (now (a .text)) (a .at) (p .inside) (sym (p .class-is) ∙ five) ∙ ap (λ (n : ℕ). tokensAt n (drop n (now (a .text)))) (sym r);
+      further = omega (arith, r);
+      within = omega (arith, r, p .inside, simp length-drop at (span-most (classBetween 1 9) (drop (a .at + 1) (now (a .text)))));
+    }
+
+pub passed-spec : {M : Type 1} → statement M
+passed-spec = tie.close (tie.spec add-result returns add-run-end run-end-requires returns-2)
