@@ -1,8 +1,9 @@
 -- Document 01, Reading: "Space, tab and CR are skipped. Newline and `;` separate. `#` skips to the newline; bytes of 128
 -- and more may stand only there." And "The match on `char`: a table of 256 byte classes, and a decision by class."
-use Prim.Native.Nat.{ℕ}
-use mathlib.Core.Bool.{Bool, cond, _||_}
-use lib.Dec.{eqb}
+use Prim.Native.Nat.{ℕ, zero, suc}
+use mathlib.Core.Bool.{Bool, cond, _&&_, _||_}
+use mathlib.Core.List.{List, [], _∷_, map}
+use lib.Dec.{eqb, leb}
 use Rattle.text.specs.Bytes.{is, among, between}
 
 pub data Class : Type 0 where
@@ -37,3 +38,16 @@ classOf b =
 -- the byte is of the class
 abbrev pub isA : Class → ℕ → Bool
 isA k b = eqb (number (classOf b)) (number k)
+
+-- the byte's class lies between two numbers, both included
+abbrev pub classBetween : ℕ → ℕ → ℕ → Bool
+classBetween lo hi b = leb lo (number (classOf b)) && leb (number (classOf b)) hi
+
+-- the numbers from one on, as many as the second says
+abbrev pub countUp : ℕ → ℕ → List ℕ
+countUp i zero = []
+countUp i (suc n) = i ∷ countUp (suc i) n
+
+-- the table: each byte's class number at its place
+unfoldable pub classTable : List ℕ
+classTable = map (λ b. number (classOf b)) (countUp 0 256)

@@ -1,6 +1,12 @@
 -- The answers of the lexer's functions, as values of the definition of tokens.
-use Prim.Native.Nat.{ℕ, _+_}
+use Prim.Native.Nat.{ℕ, _+_, _<_, _≤_}
+use mathlib.Core.Bool.{false}
 use mathlib.Core.List.{List}
+use mathlib.Core.Path.{_≡_}
+use lib.ListN.{length, drop, getD}
+use Rattle.tokens.specs.Class.{classOf, classBetween}
+use Rattle.tokens.specs.Class as classes
+use Rattle.tokens.specs.Lex.{tokensAt}
 use Rattle.tokens.specs.declared.Cursor.{Cursor}
 use Rattle.tokens.specs.declared.Lexed.{Lexed}
 use Rattle.tokens.specs.declared.Lexed.the-variants.{Word, Number, Mark, Bad, End}
@@ -28,3 +34,28 @@ unfoldable pub scanned : Tokens → Scanned
 scanned finish = Whole
 scanned (bad o) = Stray o
 scanned (t ▸ ts) = scanned ts
+
+-- What the lexer's own functions know of a text and an offset in it.
+
+-- a blank or a comment stands at the offset, with its class's number
+pub record Skippable (s : List ℕ) (o class : ℕ) : Type 0 where
+  pub inside : o < length s
+  pub class-is : class ≡ classes.number (classOf (getD s o 0))
+  pub least : 4 ≤ class
+  pub most : class ≤ 5
+
+-- the first offset's tokens are those from the second on, and there is more of the text behind the first than behind the second
+pub record Passed (s : List ℕ) (o r : ℕ) : Type 0 where
+  pub same : tokensAt o (drop o s) ≡ tokensAt r (drop r s)
+  pub further : o < r
+  pub within : r ≤ length s
+
+-- the first offset's tokens are those from the second on, where a token stands, or a byte that starts none, or the text's end
+pub record Skipped (s : List ℕ) (o r : ℕ) : Type 0 where
+  pub same : tokensAt o (drop o s) ≡ tokensAt r (drop r s)
+  pub stands : r < length s → classBetween 4 5 (getD s r 0) ≡ false
+
+-- a point stands at the offset
+pub record PointAt (s : List ℕ) (o : ℕ) : Type 0 where
+  pub inside : o < length s
+  pub is-point : classes.number (classOf (getD s o 0)) ≡ 3

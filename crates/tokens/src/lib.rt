@@ -1,9 +1,32 @@
 // The tokens of a text: a cursor that answers the next token, and a scan for the first byte that starts none.
 ghost use mathlib.Core.Path.{_≡_};
-ghost use Prim.Native.Nat.{_≤_, _<_};
+ghost use Prim.Native.Nat.{_+_, _≤_, _<_};
 ghost use lib.ListN.{length, drop};
-ghost use Rattle.tokens.specs.Lex.{tokensAt, tokens};
-ghost use Rattle.tokens.specs.Next.{first, scanned};
+ghost use Rattle.text.specs.Bytes.{span};
+ghost use Rattle.tokens.specs.Class.{classTable, classBetween};
+ghost use Rattle.tokens.specs.Lex.{tokensAt, tokens, numberRest};
+ghost use Rattle.tokens.specs.Next.{cursor, first, scanned, Passed, PointAt, Skippable, Skipped};
+
+// The class of each byte, by its number: 0 newline, 1 semicolon, 2 mark, 3 dot, 4 blank, 5 hash, 6 other, 7 hyphen,
+// 8 digit, 9 letter. A call that reads a text makes this table a local once and lends it to every function below.
+pub const CLASSES: [u8; 256] = [
+    6, 6, 6, 6, 6, 6, 6, 6, 6, 4, 0, 6, 6, 4, 6, 6,
+    6, 6, 6, 6, 6, 6, 6, 6, 6, 6, 6, 6, 6, 6, 6, 6,
+    4, 6, 6, 5, 6, 6, 6, 6, 2, 2, 2, 2, 2, 7, 3, 6,
+    8, 8, 8, 8, 8, 8, 8, 8, 8, 8, 6, 1, 6, 6, 6, 2,
+    2, 9, 9, 9, 9, 9, 9, 9, 9, 9, 9, 9, 9, 9, 9, 9,
+    9, 9, 9, 9, 9, 9, 9, 9, 9, 9, 9, 2, 6, 2, 6, 9,
+    6, 9, 9, 9, 9, 9, 9, 9, 9, 9, 9, 9, 9, 9, 9, 9,
+    9, 9, 9, 9, 9, 9, 9, 9, 9, 9, 9, 6, 6, 6, 6, 6,
+    6, 6, 6, 6, 6, 6, 6, 6, 6, 6, 6, 6, 6, 6, 6, 6,
+    6, 6, 6, 6, 6, 6, 6, 6, 6, 6, 6, 6, 6, 6, 6, 6,
+    6, 6, 6, 6, 6, 6, 6, 6, 6, 6, 6, 6, 6, 6, 6, 6,
+    6, 6, 6, 6, 6, 6, 6, 6, 6, 6, 6, 6, 6, 6, 6, 6,
+    6, 6, 6, 6, 6, 6, 6, 6, 6, 6, 6, 6, 6, 6, 6, 6,
+    6, 6, 6, 6, 6, 6, 6, 6, 6, 6, 6, 6, 6, 6, 6, 6,
+    6, 6, 6, 6, 6, 6, 6, 6, 6, 6, 6, 6, 6, 6, 6, 6,
+    6, 6, 6, 6, 6, 6, 6, 6, 6, 6, 6, 6, 6, 6, 6, 6,
+];
 
 // Where reading goes on: the offset of a byte, or the text's length.
 pub struct Cursor {
@@ -23,4 +46,141 @@ pub enum Lexed {
 pub enum Scanned {
     Whole,
     Stray(usize),
+}
+
+// The offset of the first byte, from `at` on, whose class does not lie between `lo` and `hi`.
+fn run_end(text: &[u8], classes: &[u8; 256], at: usize, lo: u8, hi: u8) -> usize
+    requires { ⌜ (now classes ≡ classTable) × (at ≤ length (now text)) ⌝ }
+    ensures { λ r. ⌜ r ≡ at + span (classBetween lo hi) (drop at (now (text .entry))) ⌝ }
+{
+    let mut i = at;
+    while i < text.len() {
+        let class = classes[text[i] as usize];
+        if class < lo {
+            return i;
+        }
+        if hi < class {
+            return i;
+        }
+        i += 1;
+    }
+    i
+}
+
+// The offset after a number whose first digit stands just before `at`.
+fn number_end(text: &[u8], classes: &[u8; 256], at: usize) -> usize
+    requires { ⌜ (now classes ≡ classTable) × (at ≤ length (now text)) ⌝ }
+    ensures { λ r. ⌜ r ≡ at + numberRest (drop at (now (text .entry))) ⌝ }
+{
+    let point = run_end(text, classes, at, 8, 8);
+    if text.len() - point < 2 {
+        return point;
+    }
+    let after = classes[text[point + 1] as usize];
+    if classes[text[point] as usize] != 3 {
+        return point;
+    }
+    if after != 8 {
+        return point;
+    }
+    run_end(text, classes, point + 2, 8, 8)
+}
+
+// The offset after a blank or a comment at `at`, whose class is known.
+fn passed(text: &[u8], classes: &[u8; 256], at: usize, class: u8) -> usize
+    requires { ⌜ (now classes ≡ classTable) × Skippable (now text) at class ⌝ }
+    ensures { λ r. ⌜ Passed (now (text .entry)) at r ⌝ }
+{
+    if class == 4 {
+        return at + 1;
+    }
+    run_end(text, classes, at + 1, 1, 9)
+}
+
+// The offset of the first byte, from `at` on, that is no blank and stands in no comment.
+fn skip(text: &[u8], classes: &[u8; 256], at: usize) -> usize
+    requires { ⌜ now classes ≡ classTable ⌝ }
+    ensures { λ r. ⌜ Skipped (now (text .entry)) at r ⌝ }
+{
+    let mut i = at;
+    while i < text.len() {
+        let class = classes[text[i] as usize];
+        if class < 4 {
+            return i;
+        }
+        if 5 < class {
+            return i;
+        }
+        i = passed(text, classes, i, class);
+    }
+    i
+}
+
+// `..` at a point, or a point that starts no token.
+fn dots(text: &[u8], classes: &[u8; 256], start: usize) -> Lexed
+    requires { ⌜ (now classes ≡ classTable) × PointAt (now text) start ⌝ }
+    ensures { λ r. ⌜ r ≡ first (tokensAt start (drop start (now (text .entry)))) ⌝ }
+{
+    if text.len() - start < 2 {
+        return Lexed::Bad { start };
+    }
+    if classes[text[start + 1] as usize] == 3 {
+        return Lexed::Mark { mark: b'.', start, next: Cursor { at: start + 2 } };
+    }
+    Lexed::Bad { start }
+}
+
+impl Cursor {
+    // The start of a text.
+    pub fn new() -> Cursor
+        ensures { λ r. ⌜ r ≡ cursor 0 ⌝ }
+    {
+        Cursor { at: 0 }
+    }
+
+    // The token at the cursor or after it, with the cursor past it.
+    pub fn next(self, text: &[u8], classes: &[u8; 256]) -> Lexed
+        requires { ⌜ now classes ≡ classTable ⌝ }
+        ensures { λ r. ⌜ r ≡ first (tokensAt (self .at) (drop (self .at) (now (text .entry)))) ⌝ }
+    {
+        let start = skip(text, classes, self.at);
+        if text.len() <= start {
+            return Lexed::End;
+        }
+        let byte = text[start];
+        let class = classes[byte as usize];
+        let after = start + 1;
+        match class {
+            0..=1 => Lexed::Mark { mark: b';', start, next: Cursor { at: after } },
+            2 => Lexed::Mark { mark: byte, start, next: Cursor { at: after } },
+            3 => dots(text, classes, start),
+            8 => {
+                let at = number_end(text, classes, after);
+                Lexed::Number { start, next: Cursor { at } }
+            }
+            9 => {
+                let at = run_end(text, classes, after, 7, 9);
+                Lexed::Word { start, next: Cursor { at } }
+            }
+            _ => Lexed::Bad { start },
+        }
+    }
+}
+
+// Whether each byte of the text stands in a token, a blank or a comment, or which is the first that does not.
+pub fn scan(text: &[u8], classes: &[u8; 256]) -> Scanned
+    requires { ⌜ now classes ≡ classTable ⌝ }
+    ensures { λ r. ⌜ r ≡ scanned (tokens (now (text .entry))) ⌝ }
+{
+    let mut at = 0;
+    loop {
+        let c = Cursor { at };
+        match c.next(text, classes) {
+            Lexed::Word { start: _, next } => at = next.at,
+            Lexed::Number { start: _, next } => at = next.at,
+            Lexed::Mark { mark: _, start: _, next } => at = next.at,
+            Lexed::Bad { start } => return Scanned::Stray(start),
+            Lexed::End => return Scanned::Whole,
+        }
+    }
 }

@@ -1,0 +1,26 @@
+-- Words compared ignoring ASCII case (000, `eq_ignore_ascii_case`).
+use Prim.Native.Nat.{ℕ, suc, _+_}
+use mathlib.Core.Bool.{Bool, true, false, cond, _&&_}
+use mathlib.Core.List.{List, [], _∷_}
+use mathlib.Core.Option.{Option, some, none}
+use lib.Dec.{eqb}
+use Rattle.text.specs.Bytes.{between}
+
+-- a letter's lower case; any other byte as it is
+abbrev pub lower : ℕ → ℕ
+lower b = cond (between "A" "Z" b) (b + 32) b
+
+unfoldable pub sameWord : List ℕ → List ℕ → Bool
+sameWord [] [] = true
+sameWord [] (y ∷ ys) = false
+sameWord (x ∷ xs) [] = false
+sameWord (x ∷ xs) (y ∷ ys) = eqb (lower x) (lower y) && sameWord xs ys
+
+abbrev pub oneLater : Option ℕ → Option ℕ
+oneLater none = none
+oneLater (some i) = some (suc i)
+
+-- the place of the first label that is the word, ignoring case
+unfoldable pub find : List ℕ → List (List ℕ) → Option ℕ
+find w [] = none
+find w (l ∷ ls) = cond (sameWord w l) (some 0) (oneLater (find w ls))
