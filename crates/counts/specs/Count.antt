@@ -8,10 +8,13 @@ use Rattle.text.specs.Bytes.{between, every}
 use Rattle.counts.specs.declared.Counted.{Counted}
 use Rattle.counts.specs.declared.Counted.the-variants.{Count, Refused}
 
+abbrev pub isDigit : ℕ → Bool
+isDigit b = between "0" "9" b
+
 -- one digit or more, and nothing else
 abbrev pub whole : List ℕ → Bool
 whole [] = false
-whole (d ∷ ds) = every (between "0" "9") (d ∷ ds)
+whole (d ∷ ds) = every isDigit (d ∷ ds)
 
 -- the number that digits stand for after a number that stands before them
 abbrev pub valueAfter : ℕ → List ℕ → ℕ

@@ -1,0 +1,4 @@
+pub mod Digits
+pub mod CountAfter
+pub mod Decimal
+pub mod Examples
