@@ -1,4 +1,5 @@
 pub mod Class
 pub mod Token
 pub mod Lex
+pub mod Spelling
 pub mod Next
