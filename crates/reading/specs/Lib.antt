@@ -1,0 +1,6 @@
+pub mod Statement
+pub mod Answer
+pub mod Argument
+pub mod Feature
+pub mod Syntax
+pub mod Read

@@ -1,0 +1,1 @@
+// Reading: the definition of what a text's statements are stands in specs/.
