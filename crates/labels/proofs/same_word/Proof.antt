@@ -1,0 +1,83 @@
+use mathlib.Core.Path.{_≡_, refl, sym, _∙_}
+use Prim.Native.Nat.{_≤_, _-_}
+use native.Mathlib.Omega.{arith}
+use lib.ListN.{length, drop}
+use denote.Ref.{now}
+use borrow.Author.Needs.{needs}
+use borrow.Author.Tests.{eq-eqb, ne-eqb}
+use Rattle.labels.specs.Word.{sameWord}
+use Rattle.labels.proofs.Words.{lengths-differ, same-step, same-end}
+use Rattle.labels.proofs.same_word.Statement.{statement}
+use Rattle.labels.proofs.same_word.Tie as tie
+use Rattle.labels.proofs.same_word.Reads as reads
+use Rattle.labels.proofs.same_word.Lts as lts
+use Rattle.labels.proofs.lower_byte.Reads as lower-byte-reads
+
+abbrev Inv-loop : tie.InvT-loop
+Inv-loop word label i₀ i =
+    (i ≤ length word) × (length word ≡ length label) × (sameWord word label ≡ sameWord (drop i word) (drop i label))
+
+abbrev μ-loop : tie.MeasureT-loop
+μ-loop word label i₀ i = length word - i
+
+-- src/lib.rt:110:9
+returns : tie.Need-returns Inv-loop μ-loop
+returns c = ?
+
+-- src/lib.rt:113:5
+loop-holds : tie.Need-loop-holds Inv-loop μ-loop
+loop-holds c = ?
+
+-- src/lib.rt:114:28
+shared-slice-read-lower-byte : tie.Need-shared-slice-read-lower-byte Inv-loop μ-loop
+shared-slice-read-lower-byte c = omega arith
+
+-- src/lib.rt:114:13
+lower-byte-requires : tie.Need-lower-byte-requires Inv-loop μ-loop
+lower-byte-requires c κs = tt
+
+-- src/lib.rt:115:28
+shared-slice-read-lower-byte-2 : tie.Need-shared-slice-read-lower-byte-2 Inv-loop μ-loop
+shared-slice-read-lower-byte-2 c = omega arith
+
+-- src/lib.rt:115:13
+lower-byte-requires-2 : tie.Need-lower-byte-requires-2 Inv-loop μ-loop
+lower-byte-requires-2 c κs = tt
+
+-- src/lib.rt:117:13
+returns-2 : tie.Need-returns-2 Inv-loop μ-loop
+returns-2 c = ?
+
+-- src/lib.rt:119:9
+add-i : tie.Need-add-i Inv-loop μ-loop
+add-i c = omega arith
+
+-- src/lib.rt:113:5
+loop-less : tie.Need-loop-less Inv-loop μ-loop
+loop-less c = omega arith
+
+-- src/lib.rt:113:5
+loop-again : tie.Need-loop-again Inv-loop μ-loop
+loop-again c = ?
+
+-- src/lib.rt:106:1
+returns-3 : tie.Need-returns-3 Inv-loop μ-loop
+returns-3 c = ?
+
+pub same-word-spec : {M : Type 1} → statement M
+same-word-spec =
+    tie.close
+    (tie.spec
+    Inv-loop
+    μ-loop
+    returns
+    loop-holds
+    shared-slice-read-lower-byte
+    lower-byte-requires
+    shared-slice-read-lower-byte-2
+    lower-byte-requires-2
+    returns-2
+    add-i
+    loop-less
+    loop-again
+    returns-3)
