@@ -53,6 +53,10 @@ held-row t i n ls k h l =
     let short : k < n = omega (arith, ap length (h .held), length-labelsIn t i n) in
     (row-fits t i n k (h .fit) short, rw (h .held) at (sym (label-in t i n k short)))
 
+-- what is lent as a table holds what the table does
+pub lent : (s t : List ℕ) (i n : ℕ) (ls : List (List ℕ)) → s ≡ t → Holds t i n ls → Holds s i n ls
+lent s t i n ls e h = rw e h
+
 pub keywords-held : Holds keywordTable 0 15 keywords
 unfolding keywordTable keywords rowsFit labelsIn
 keywords-held = record { fit = refl; held = refl }

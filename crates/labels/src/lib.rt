@@ -150,9 +150,9 @@ fn find_rows(table: &[u8], first: usize, count: usize, word: &[u8]) -> Found
 }
 
 // The rows of one family in the table of labels.
-pub struct Rows {
-    pub first: usize,
-    pub count: usize,
+struct Rows {
+    first: usize,
+    count: usize,
 }
 
 fn rows_of(family: Family) -> Rows

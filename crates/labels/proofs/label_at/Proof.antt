@@ -1,6 +1,7 @@
 use borrow.Author.Needs.{needs}
 use native.Mathlib.Omega.{arith}
 use Prim.Native.Nat.{_+_, _*_, _≤_}
+use native.Mathlib.Nat.{add-sub-cancel-left}
 use lib.ListN.{length, getD}
 use denote.Ref.{now}
 use Rattle.labels.proofs.Tables.{row-within}
@@ -51,7 +52,7 @@ part-result-end c = omega (arith, row (c .before))
 
 -- src/lib.rt:125:1
 returns : tie.Need-returns
-returns c = ?
+returns c = simp add-sub-cancel-left
 
 pub label-at-spec : {M : Type 1} → statement M
 label-at-spec =

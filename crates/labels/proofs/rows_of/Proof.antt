@@ -1,4 +1,8 @@
+use mathlib.Core.Path.{refl}
 use borrow.Author.Needs.{needs}
+use Rattle.labels.specs.Label.{labelsOf}
+use Rattle.labels.specs.Table.{labelTable}
+use Rattle.labels.specs.Row.{labelsIn, rowsFit}
 use Rattle.labels.proofs.rows_of.Statement.{statement}
 use Rattle.labels.proofs.rows_of.Tie as tie
 use Rattle.labels.proofs.rows_of.Reads as reads
@@ -50,47 +54,58 @@ enum-told-11 c = search needs
 
 -- src/lib.rt:158:1
 returns : tie.Need-returns
-returns c = ?
+unfolding labelTable labelsOf rowsFit labelsIn
+returns c = rw (c .enum-told .given .1) (record { fit = refl; held = refl })
 
 -- src/lib.rt:158:1
 returns-2 : tie.Need-returns-2
-returns-2 c = ?
+unfolding labelTable labelsOf rowsFit labelsIn
+returns-2 c = rw (c .enum-told2 .given .1) (record { fit = refl; held = refl })
 
 -- src/lib.rt:158:1
 returns-3 : tie.Need-returns-3
-returns-3 c = ?
+unfolding labelTable labelsOf rowsFit labelsIn
+returns-3 c = rw (c .enum-told3 .given .1) (record { fit = refl; held = refl })
 
 -- src/lib.rt:158:1
 returns-4 : tie.Need-returns-4
-returns-4 c = ?
+unfolding labelTable labelsOf rowsFit labelsIn
+returns-4 c = rw (c .enum-told4 .given .1) (record { fit = refl; held = refl })
 
 -- src/lib.rt:158:1
 returns-5 : tie.Need-returns-5
-returns-5 c = ?
+unfolding labelTable labelsOf rowsFit labelsIn
+returns-5 c = rw (c .enum-told5 .given .1) (record { fit = refl; held = refl })
 
 -- src/lib.rt:158:1
 returns-6 : tie.Need-returns-6
-returns-6 c = ?
+unfolding labelTable labelsOf rowsFit labelsIn
+returns-6 c = rw (c .enum-told6 .given .1) (record { fit = refl; held = refl })
 
 -- src/lib.rt:158:1
 returns-7 : tie.Need-returns-7
-returns-7 c = ?
+unfolding labelTable labelsOf rowsFit labelsIn
+returns-7 c = rw (c .enum-told7 .given .1) (record { fit = refl; held = refl })
 
 -- src/lib.rt:158:1
 returns-8 : tie.Need-returns-8
-returns-8 c = ?
+unfolding labelTable labelsOf rowsFit labelsIn
+returns-8 c = rw (c .enum-told8 .given .1) (record { fit = refl; held = refl })
 
 -- src/lib.rt:158:1
 returns-9 : tie.Need-returns-9
-returns-9 c = ?
+unfolding labelTable labelsOf rowsFit labelsIn
+returns-9 c = rw (c .enum-told9 .given .1) (record { fit = refl; held = refl })
 
 -- src/lib.rt:158:1
 returns-10 : tie.Need-returns-10
-returns-10 c = ?
+unfolding labelTable labelsOf rowsFit labelsIn
+returns-10 c = rw (c .enum-told10 .given .1) (record { fit = refl; held = refl })
 
 -- src/lib.rt:158:1
 returns-11 : tie.Need-returns-11
-returns-11 c = ?
+unfolding labelTable labelsOf rowsFit labelsIn
+returns-11 c = rw (c .enum-told11 .given .1) (record { fit = refl; held = refl })
 
 pub rows-of-spec : {M : Type 1} → statement M
 rows-of-spec =

@@ -1,5 +1,7 @@
 use mathlib.Core.Path.{_≡_, refl, sym, _∙_}
-use Prim.Native.Nat.{_≤_, _-_}
+use mathlib.Core.Bool.{_&&_}
+use Prim.Native.Nat.{_+_, _≤_, _-_}
+use lib.Dec.{eqb}
 use native.Mathlib.Omega.{arith}
 use lib.ListN.{length, drop}
 use denote.Ref.{now}
@@ -20,13 +22,27 @@ Inv-loop word label i₀ i =
 abbrev μ-loop : tie.MeasureT-loop
 μ-loop word label i₀ i = length word - i
 
+-- after a turn's two calls: the words are the same if these bytes' lower cases are and what is left is
+told : (c : tie.After-lower-byte2 Inv-loop μ-loop)
+    → let loop = c .before .before .before .before .before in
+    let args = loop .before .before .before .before .args in
+    sameWord (now (args .word)) (now (args .label))
+    ≡ (eqb (c .before .before .lower-byte .result) (c .lower-byte2 .result)
+    && sameWord (drop (loop .loop .i + 1) (now (args .word))) (drop (loop .loop .i + 1) (now (args .label))))
+told c =
+    let loop = c .before .before .before .before .before in
+    let args = loop .before .before .before .before .args in
+    loop .loop .inv .2
+    ∙ same-step (now (args .word)) (now (args .label)) (loop .loop .i) (omega arith) (omega arith)
+    ∙ rw (c .before .before .lower-byte .ensures, c .lower-byte2 .ensures)
+
 -- src/lib.rt:110:9
 returns : tie.Need-returns Inv-loop μ-loop
-returns c = ?
+returns c = sym (lengths-differ _ _ (c .if1 .taken))
 
 -- src/lib.rt:113:5
 loop-holds : tie.Need-loop-holds Inv-loop μ-loop
-loop-holds c = ?
+loop-holds c = (omega arith, c .if1 .left, refl)
 
 -- src/lib.rt:114:28
 shared-slice-read-lower-byte : tie.Need-shared-slice-read-lower-byte Inv-loop μ-loop
@@ -46,7 +62,7 @@ lower-byte-requires-2 c κs = tt
 
 -- src/lib.rt:117:13
 returns-2 : tie.Need-returns-2 Inv-loop μ-loop
-returns-2 c = ?
+returns-2 c = sym (told (c .before) ∙ rw (ne-eqb _ _ (c .if2 .taken)))
 
 -- src/lib.rt:119:9
 add-i : tie.Need-add-i Inv-loop μ-loop
@@ -58,11 +74,12 @@ loop-less c = omega arith
 
 -- src/lib.rt:113:5
 loop-again : tie.Need-loop-again Inv-loop μ-loop
-loop-again c = ?
+loop-again c =
+    (omega arith, c .before .before .before .before .before .before .loop .inv .1, told (c .before) ∙ rw (eq-eqb _ _ (c .if2 .left)))
 
 -- src/lib.rt:106:1
 returns-3 : tie.Need-returns-3 Inv-loop μ-loop
-returns-3 c = ?
+returns-3 c = sym (c .before .loop .inv .2 ∙ same-end _ _ (c .before .loop .i) (c .loop-test .left) (omega arith))
 
 pub same-word-spec : {M : Type 1} → statement M
 same-word-spec =
