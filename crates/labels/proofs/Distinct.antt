@@ -1,10 +1,10 @@
 -- Labels that are distinct ignoring case are found at their own places.
 -- Assumes nothing.
-use mathlib.Core.Path.{_≡_, refl, sym, ap, _∙_}
-use mathlib.Core.Bool.{Bool, true, false, cond, _&&_, false≢true}
+use mathlib.Core.Path.{_≡_, refl}
+use mathlib.Core.Bool.{true, false, false≢true}
 use mathlib.Core.List.{List, [], _∷_}
-use mathlib.Core.Option.{Option, some, none}
-use Prim.Native.Nat.{ℕ, zero, suc, _+_, _≤_, _<_}
+use mathlib.Core.Option.{Option, some}
+use Prim.Native.Nat.{ℕ, zero, suc, _<_}
 use native.Mathlib.Nat.{le-of-suc-le-suc, not-suc-le-zero}
 use lib.ListN.{length, getD}
 use Rattle.labels.specs.declared.Family.{Family}
@@ -22,7 +22,7 @@ use Rattle.labels.specs.declared.Family.the-variants.{
   VariabilityLevel,
 }
 use Rattle.labels.specs.Label.{labelsOf, keywords}
-use Rattle.labels.specs.Word.{sameWord, oneLater, find, absent, distinct}
+use Rattle.labels.specs.Word.{sameWord, find, absent, distinct}
 use Rattle.labels.proofs.Words.{halves, refuted, same-self, same-sym, same-trans}
 
 -- a word that is one of the rest is not the first label, where that is not in the rest

@@ -1,20 +1,16 @@
 -- The rows of a table: which labels they hold, and that each of them fits.
 -- Assumes nothing.
-use mathlib.Core.Path.{_≡_, refl, sym, ap, _∙_}
-use mathlib.Core.Bool.{Bool, true, false, cond, _&&_, false≢true}
-use mathlib.Core.List.{List, [], _∷_}
-use mathlib.Core.Option.{Option, some, none}
-use Prim.Native.Nat.{ℕ, zero, suc, _+_, _*_, _-_, _≤_, _<_}
+use mathlib.Core.Path.{_≡_, refl, sym, ap}
+use mathlib.Core.Bool.{true}
+use mathlib.Core.List.{List, []}
+use Prim.Native.Nat.{ℕ, zero, suc, _+_, _*_, _≤_, _<_}
 use native.Mathlib.Nat.{add-zero, le-of-suc-le-suc, not-suc-le-zero}
 use native.Mathlib.Omega.{arith}
 use lib.Dec.{leb}
 use lib.ListN.{length, getD}
 use borrow.Author.Tests.{leb-true}
-use Rattle.labels.specs.Word.{sameWord, find}
-use Rattle.labels.specs.Table.{labelTable, keywordTable, foundAs}
-use Rattle.labels.specs.Label.{labelsOf, keywords}
-use Rattle.labels.specs.declared.Found.{Found}
-use Rattle.labels.specs.declared.Found.the-variants.{Place, Nothing}
+use Rattle.labels.specs.Table.{keywordTable}
+use Rattle.labels.specs.Label.{keywords}
 use Rattle.labels.specs.Row.{labelAt, labelsIn, rowFits, rowsFit, Holds}
 use Rattle.labels.proofs.Words.{halves}
 

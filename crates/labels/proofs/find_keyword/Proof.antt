@@ -1,3 +1,5 @@
+-- `labels::find_keyword` meets its contract: what is found in the table's rows is what is found in the keywords, which they hold.
+-- Assumes nothing.
 use mathlib.Core.Path.{_∙_}
 use denote.Ref.{now}
 use Rattle.labels.specs.Label.{keywords}
@@ -5,19 +7,14 @@ use Rattle.labels.specs.Row.{Holds}
 use Rattle.labels.proofs.Tables.{lent, keywords-held}
 use Rattle.labels.proofs.find_keyword.Statement.{statement}
 use Rattle.labels.proofs.find_keyword.Tie as tie
-use Rattle.labels.proofs.find_keyword.Reads as reads
-use Rattle.labels.proofs.find_keyword.Lts as lts
-use Rattle.labels.proofs.find_rows.Reads as find-rows-reads
 
 -- the rows of the keywords, in what is lent
 rows : (c : tie.Start) → Holds (now (c .args .keys)) 0 15 keywords
 rows c = lent _ _ _ _ _ (c .pre) keywords-held
 
--- src/lib.rt:190:5
 find-rows-requires : tie.Need-find-rows-requires
 find-rows-requires c κs = rows (c .before .before) .fit
 
--- src/lib.rt:186:1
 returns : tie.Need-returns
 returns c = c .find-rows .ensures ∙ rw (rows (c .before .before .before) .held)
 

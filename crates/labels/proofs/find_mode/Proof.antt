@@ -1,3 +1,5 @@
+-- `labels::find_mode` meets its contract: what is found in the family's rows is what is found in its labels, which they hold.
+-- Assumes nothing.
 use mathlib.Core.Path.{_∙_}
 use denote.Ref.{now}
 use Rattle.labels.specs.Label.{labelsOf}
@@ -6,25 +8,18 @@ use Rattle.labels.proofs.Tables.{lent}
 use borrow.Author.Needs.{needs}
 use Rattle.labels.proofs.find_mode.Statement.{statement}
 use Rattle.labels.proofs.find_mode.Tie as tie
-use Rattle.labels.proofs.find_mode.Reads as reads
-use Rattle.labels.proofs.find_mode.Lts as lts
-use Rattle.labels.proofs.find_rows.Reads as find-rows-reads
-use Rattle.labels.proofs.rows_of.Reads as rows-of-reads
 
 -- the family's rows, in what is lent
 rows : (c : tie.After-rows-of)
     → Holds (now (c .before .before .args .labels)) (c .rows-of .result .first) (c .rows-of .result .count) (labelsOf (c .before .before .args .family))
 rows c = lent _ _ _ _ _ (c .before .before .pre) (c .rows-of .ensures)
 
--- src/lib.rt:181:9
 rows-of-requires : tie.Need-rows-of-requires
 rows-of-requires c κs = search needs
 
--- src/lib.rt:182:5
 find-rows-requires : tie.Need-find-rows-requires
 find-rows-requires c κs = rows (c .before) .fit
 
--- src/lib.rt:177:1
 returns : tie.Need-returns
 returns c = c .find-rows .ensures ∙ rw (rows (c .before .before) .held)
 

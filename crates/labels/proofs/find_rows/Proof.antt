@@ -1,9 +1,11 @@
+-- `labels::find_rows` meets its contract. The loop's invariant: what is found in all the rows is what is found in those left, counted on
+-- from the rows passed. The measure is the number of rows left.
+-- Assumes nothing.
 use mathlib.Core.Path.{_≡_, sym, ap, _∙_}
 use mathlib.Core.Bool.{true}
 use Prim.Native.Nat.{_+_, _≤_, _-_}
 use native.Mathlib.Omega.{arith}
 use denote.Ref.{now}
-use borrow.Author.Needs.{needs}
 use Rattle.labels.specs.Word.{sameWord}
 use Rattle.labels.specs.Table.{foundAs}
 use Rattle.labels.specs.Row.{labelAt, rowFits}
@@ -11,10 +13,6 @@ use Rattle.labels.proofs.Tables.{row-within, row-fits}
 use Rattle.labels.proofs.Scanning.{Passed, passed-none, passed-more, passed-found, passed-all}
 use Rattle.labels.proofs.find_rows.Statement.{statement}
 use Rattle.labels.proofs.find_rows.Tie as tie
-use Rattle.labels.proofs.find_rows.Reads as reads
-use Rattle.labels.proofs.find_rows.Lts as lts
-use Rattle.labels.proofs.label_at.Reads as label-at-reads
-use Rattle.labels.proofs.same_word.Reads as same-word-reads
 
 abbrev Inv-loop : tie.InvT-loop
 Inv-loop table first count word place₀ place = (place ≤ count) × Passed word table first count place
@@ -36,45 +34,36 @@ told : (c : tie.After-same-word Inv-loop μ-loop)
     c .same-word .result ≡ sameWord (now (args .word)) (labelAt (now (args .table)) (args .first + c .before .before .before .loop .place))
 told c = c .same-word .ensures ∙ rw (c .before .label-at .ensures)
 
--- src/lib.rt:142:5
 loop-holds : tie.Need-loop-holds Inv-loop μ-loop
 loop-holds c = (omega arith, passed-none _ _ _ _)
 
--- src/lib.rt:143:37
 add-label-at : tie.Need-add-label-at Inv-loop μ-loop
 add-label-at c =
     let args = c .before .before .before .before .args in
     omega (arith, row-within (now (args .table)) (args .first + c .before .loop .place) (row c))
 
--- src/lib.rt:143:13
 label-at-requires : tie.Need-label-at-requires Inv-loop μ-loop
 label-at-requires c κs = row c
 
--- src/lib.rt:144:12
 same-word-requires : tie.Need-same-word-requires Inv-loop μ-loop
 same-word-requires c κs = tt
 
--- src/lib.rt:145:13
 returns : tie.Need-returns Inv-loop μ-loop
 returns c =
     let loop = c .before .before .before .before in
     sym (ap foundAs (passed-found _ _ _ _ _ (omega arith) (loop .loop .inv .1) (sym (told (c .before)) ∙ c .if1 .taken)))
 
--- src/lib.rt:147:9
 add-place : tie.Need-add-place Inv-loop μ-loop
 add-place c = omega arith
 
--- src/lib.rt:142:5
 loop-less : tie.Need-loop-less Inv-loop μ-loop
 loop-less c = omega arith
 
--- src/lib.rt:142:5
 loop-again : tie.Need-loop-again Inv-loop μ-loop
 loop-again c =
     let loop = c .before .before .before .before in
     (omega arith, passed-more _ _ _ _ _ (omega arith) (loop .loop .inv .1) (sym (told (c .before)) ∙ c .if1 .left))
 
--- src/lib.rt:137:1
 returns-2 : tie.Need-returns-2 Inv-loop μ-loop
 returns-2 c = sym (ap foundAs (passed-all _ _ _ _ _ (c .loop-test .left) (c .before .loop .inv .1)))
 

@@ -1,19 +1,16 @@
+-- `labels::keyword` meets its contract: the constant is the table of keywords, byte by byte.
+-- Assumes nothing.
 use mathlib.Core.Path.{refl}
 use Rattle.labels.specs.Label.{keywords}
 use Rattle.labels.specs.Table.{keywordTable}
 use borrow.Author.Needs.{needs}
 use Rattle.labels.proofs.keyword.Statement.{statement}
 use Rattle.labels.proofs.keyword.Tie as tie
-use Rattle.labels.proofs.keyword.Reads as reads
-use Rattle.labels.proofs.keyword.Lts as lts
-use Rattle.labels.proofs.find_keyword.Reads as find-keyword-reads
 
--- src/lib.rt:224:5
 find-keyword-requires : tie.Need-find-keyword-requires
 unfolding keywordTable keywords
 find-keyword-requires c κs = refl
 
--- src/lib.rt:220:1
 returns : tie.Need-returns
 returns c = search needs
 

@@ -1,3 +1,5 @@
+-- `labels::keyword_label` meets its contract: the row at the place holds the keyword.
+-- Assumes nothing.
 use mathlib.Core.Path.{_≡_, _∙_}
 use mathlib.Core.Bool.{true}
 use mathlib.Core.List.{[]}
@@ -9,20 +11,15 @@ use Rattle.labels.specs.Row.{labelAt, rowFits}
 use Rattle.labels.proofs.Tables.{held-row, lent, keywords-held}
 use Rattle.labels.proofs.keyword_label.Statement.{statement}
 use Rattle.labels.proofs.keyword_label.Tie as tie
-use Rattle.labels.proofs.keyword_label.Reads as reads
-use Rattle.labels.proofs.keyword_label.Lts as lts
-use Rattle.labels.proofs.label_at.Reads as label-at-reads
 
 -- the row of the keyword
 row : (c : tie.Start)
     → (rowFits (now (c .args .keys)) (c .args .place) ≡ true) × (labelAt (now (c .args .keys)) (c .args .place) ≡ getD keywords (c .args .place) [])
 row c = rw (zero-add (c .args .place)) at (held-row _ _ _ _ (c .args .place) (lent _ _ _ _ _ (c .pre .0) keywords-held) (c .pre .1))
 
--- src/lib.rt:209:5
 label-at-requires : tie.Need-label-at-requires
 label-at-requires c κs = row (c .before) .0
 
--- src/lib.rt:204:1
 returns : tie.Need-returns
 returns c = c .label-at .ensures ∙ row (c .before .before) .1
 

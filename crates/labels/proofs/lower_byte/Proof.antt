@@ -1,23 +1,19 @@
+-- `labels::lower_byte` meets its contract: at each `return` the tests that led there are those of `lower`.
+-- Assumes nothing.
 use borrow.Author.Needs.{needs}
 use borrow.Author.Tests.{le-leb, lt-leb}
 use Rattle.labels.proofs.lower_byte.Statement.{statement}
 use Rattle.labels.proofs.lower_byte.Tie as tie
-use Rattle.labels.proofs.lower_byte.Reads as reads
-use Rattle.labels.proofs.lower_byte.Lts as lts
 
--- src/lib.rt:99:20
 add-result : tie.Need-add-result
 add-result c = search needs
 
--- src/lib.rt:99:13
 returns : tie.Need-returns
 returns c = simp (le-leb _ _ (c .before .if1 .taken), le-leb _ _ (c .if2 .taken))
 
--- src/lib.rt:94:1
 returns-2 : tie.Need-returns-2
 returns-2 c = simp (le-leb _ _ (c .before .if1 .taken), lt-leb _ _ (c .if2 .left))
 
--- src/lib.rt:94:1
 returns-3 : tie.Need-returns-3
 returns-3 c = simp (lt-leb _ _ (c .if1 .left))
 

@@ -1,3 +1,5 @@
+-- `labels::mode_label` meets its contract: the family's row at the place holds the label.
+-- Assumes nothing.
 use mathlib.Core.Path.{_≡_, _∙_}
 use mathlib.Core.Bool.{true}
 use mathlib.Core.List.{[]}
@@ -11,10 +13,6 @@ use Rattle.labels.proofs.Tables.{row-within, held-row, lent}
 use borrow.Author.Needs.{needs}
 use Rattle.labels.proofs.mode_label.Statement.{statement}
 use Rattle.labels.proofs.mode_label.Tie as tie
-use Rattle.labels.proofs.mode_label.Reads as reads
-use Rattle.labels.proofs.mode_label.Lts as lts
-use Rattle.labels.proofs.label_at.Reads as label-at-reads
-use Rattle.labels.proofs.rows_of.Reads as rows-of-reads
 
 -- the row of the label
 row : (c : tie.After-rows-of)
@@ -22,21 +20,17 @@ row : (c : tie.After-rows-of)
     × (labelAt (now (c .before .args .labels)) (c .rows-of .result .first + c .before .args .place) ≡ getD (labelsOf (c .before .args .family)) (c .before .args .place) [])
 row c = held-row _ _ _ _ _ (lent _ _ _ _ _ (c .before .pre .0) (c .rows-of .ensures)) (c .before .pre .1)
 
--- src/lib.rt:199:9
 rows-of-requires : tie.Need-rows-of-requires
 rows-of-requires c κs = search needs
 
--- src/lib.rt:200:22
 add-label-at : tie.Need-add-label-at
 add-label-at c =
     let args = c .before .before .before .args in
     omega (arith, row-within (now (args .labels)) (c .before .before .rows-of .result .first + args .place) (row (c .before .before) .0))
 
--- src/lib.rt:200:5
 label-at-requires : tie.Need-label-at-requires
 label-at-requires c κs = row (c .before .before) .0
 
--- src/lib.rt:194:1
 returns : tie.Need-returns
 returns c = c .label-at .ensures ∙ row (c .before .before .before) .1
 

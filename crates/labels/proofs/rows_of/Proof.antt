@@ -1,3 +1,5 @@
+-- `labels::rows_of` meets its contract: that the rows fit and hold the family's labels is computed, for each family.
+-- Assumes nothing.
 use mathlib.Core.Path.{refl}
 use borrow.Author.Needs.{needs}
 use Rattle.labels.specs.Label.{labelsOf}
@@ -5,104 +7,80 @@ use Rattle.labels.specs.Table.{labelTable}
 use Rattle.labels.specs.Row.{labelsIn, rowsFit}
 use Rattle.labels.proofs.rows_of.Statement.{statement}
 use Rattle.labels.proofs.rows_of.Tie as tie
-use Rattle.labels.proofs.rows_of.Reads as reads
-use Rattle.labels.proofs.rows_of.Lts as lts
 
--- src/lib.rt:162:35
 enum-told : tie.Need-enum-told
 enum-told c = search needs
 
--- src/lib.rt:163:36
 enum-told-2 : tie.Need-enum-told-2
 enum-told-2 c = search needs
 
--- src/lib.rt:164:35
 enum-told-3 : tie.Need-enum-told-3
 enum-told-3 c = search needs
 
--- src/lib.rt:165:30
 enum-told-4 : tie.Need-enum-told-4
 enum-told-4 c = search needs
 
--- src/lib.rt:166:32
 enum-told-5 : tie.Need-enum-told-5
 enum-told-5 c = search needs
 
--- src/lib.rt:167:36
 enum-told-6 : tie.Need-enum-told-6
 enum-told-6 c = search needs
 
--- src/lib.rt:168:27
 enum-told-7 : tie.Need-enum-told-7
 enum-told-7 c = search needs
 
--- src/lib.rt:169:35
 enum-told-8 : tie.Need-enum-told-8
 enum-told-8 c = search needs
 
--- src/lib.rt:170:35
 enum-told-9 : tie.Need-enum-told-9
 enum-told-9 c = search needs
 
--- src/lib.rt:171:38
 enum-told-10 : tie.Need-enum-told-10
 enum-told-10 c = search needs
 
--- src/lib.rt:172:37
 enum-told-11 : tie.Need-enum-told-11
 enum-told-11 c = search needs
 
--- src/lib.rt:158:1
 returns : tie.Need-returns
 unfolding labelTable labelsOf rowsFit labelsIn
 returns c = rw (c .enum-told .given .1) (record { fit = refl; held = refl })
 
--- src/lib.rt:158:1
 returns-2 : tie.Need-returns-2
 unfolding labelTable labelsOf rowsFit labelsIn
 returns-2 c = rw (c .enum-told2 .given .1) (record { fit = refl; held = refl })
 
--- src/lib.rt:158:1
 returns-3 : tie.Need-returns-3
 unfolding labelTable labelsOf rowsFit labelsIn
 returns-3 c = rw (c .enum-told3 .given .1) (record { fit = refl; held = refl })
 
--- src/lib.rt:158:1
 returns-4 : tie.Need-returns-4
 unfolding labelTable labelsOf rowsFit labelsIn
 returns-4 c = rw (c .enum-told4 .given .1) (record { fit = refl; held = refl })
 
--- src/lib.rt:158:1
 returns-5 : tie.Need-returns-5
 unfolding labelTable labelsOf rowsFit labelsIn
 returns-5 c = rw (c .enum-told5 .given .1) (record { fit = refl; held = refl })
 
--- src/lib.rt:158:1
 returns-6 : tie.Need-returns-6
 unfolding labelTable labelsOf rowsFit labelsIn
 returns-6 c = rw (c .enum-told6 .given .1) (record { fit = refl; held = refl })
 
--- src/lib.rt:158:1
 returns-7 : tie.Need-returns-7
 unfolding labelTable labelsOf rowsFit labelsIn
 returns-7 c = rw (c .enum-told7 .given .1) (record { fit = refl; held = refl })
 
--- src/lib.rt:158:1
 returns-8 : tie.Need-returns-8
 unfolding labelTable labelsOf rowsFit labelsIn
 returns-8 c = rw (c .enum-told8 .given .1) (record { fit = refl; held = refl })
 
--- src/lib.rt:158:1
 returns-9 : tie.Need-returns-9
 unfolding labelTable labelsOf rowsFit labelsIn
 returns-9 c = rw (c .enum-told9 .given .1) (record { fit = refl; held = refl })
 
--- src/lib.rt:158:1
 returns-10 : tie.Need-returns-10
 unfolding labelTable labelsOf rowsFit labelsIn
 returns-10 c = rw (c .enum-told10 .given .1) (record { fit = refl; held = refl })
 
--- src/lib.rt:158:1
 returns-11 : tie.Need-returns-11
 unfolding labelTable labelsOf rowsFit labelsIn
 returns-11 c = rw (c .enum-told11 .given .1) (record { fit = refl; held = refl })

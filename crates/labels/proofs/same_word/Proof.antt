@@ -1,3 +1,6 @@
+-- `labels::same_word` meets its contract. The loop's invariant: the lengths are equal, and the words are the same if what is left of them
+-- from `i` on is. The measure is the number of bytes left.
+-- Assumes nothing.
 use mathlib.Core.Path.{_≡_, refl, sym, _∙_}
 use mathlib.Core.Bool.{_&&_}
 use Prim.Native.Nat.{_+_, _≤_, _-_}
@@ -5,15 +8,11 @@ use lib.Dec.{eqb}
 use native.Mathlib.Omega.{arith}
 use lib.ListN.{length, drop}
 use denote.Ref.{now}
-use borrow.Author.Needs.{needs}
 use borrow.Author.Tests.{eq-eqb, ne-eqb}
 use Rattle.labels.specs.Word.{sameWord}
 use Rattle.labels.proofs.Words.{lengths-differ, same-step, same-end}
 use Rattle.labels.proofs.same_word.Statement.{statement}
 use Rattle.labels.proofs.same_word.Tie as tie
-use Rattle.labels.proofs.same_word.Reads as reads
-use Rattle.labels.proofs.same_word.Lts as lts
-use Rattle.labels.proofs.lower_byte.Reads as lower-byte-reads
 
 abbrev Inv-loop : tie.InvT-loop
 Inv-loop word label i₀ i =
@@ -36,48 +35,37 @@ told c =
     ∙ same-step (now (args .word)) (now (args .label)) (loop .loop .i) (omega arith) (omega arith)
     ∙ rw (c .before .before .lower-byte .ensures, c .lower-byte2 .ensures)
 
--- src/lib.rt:110:9
 returns : tie.Need-returns Inv-loop μ-loop
 returns c = sym (lengths-differ _ _ (c .if1 .taken))
 
--- src/lib.rt:113:5
 loop-holds : tie.Need-loop-holds Inv-loop μ-loop
 loop-holds c = (omega arith, c .if1 .left, refl)
 
--- src/lib.rt:114:28
 shared-slice-read-lower-byte : tie.Need-shared-slice-read-lower-byte Inv-loop μ-loop
 shared-slice-read-lower-byte c = omega arith
 
--- src/lib.rt:114:13
 lower-byte-requires : tie.Need-lower-byte-requires Inv-loop μ-loop
 lower-byte-requires c κs = tt
 
--- src/lib.rt:115:28
 shared-slice-read-lower-byte-2 : tie.Need-shared-slice-read-lower-byte-2 Inv-loop μ-loop
 shared-slice-read-lower-byte-2 c = omega arith
 
--- src/lib.rt:115:13
 lower-byte-requires-2 : tie.Need-lower-byte-requires-2 Inv-loop μ-loop
 lower-byte-requires-2 c κs = tt
 
--- src/lib.rt:117:13
 returns-2 : tie.Need-returns-2 Inv-loop μ-loop
 returns-2 c = sym (told (c .before) ∙ rw (ne-eqb _ _ (c .if2 .taken)))
 
--- src/lib.rt:119:9
 add-i : tie.Need-add-i Inv-loop μ-loop
 add-i c = omega arith
 
--- src/lib.rt:113:5
 loop-less : tie.Need-loop-less Inv-loop μ-loop
 loop-less c = omega arith
 
--- src/lib.rt:113:5
 loop-again : tie.Need-loop-again Inv-loop μ-loop
 loop-again c =
     (omega arith, c .before .before .before .before .before .before .loop .inv .1, told (c .before) ∙ rw (eq-eqb _ _ (c .if2 .left)))
 
--- src/lib.rt:106:1
 returns-3 : tie.Need-returns-3 Inv-loop μ-loop
 returns-3 c = sym (c .before .loop .inv .2 ∙ same-end _ _ (c .before .loop .i) (c .loop-test .left) (omega arith))
 
