@@ -149,64 +149,39 @@ fn find_rows(table: &[u8], first: usize, count: usize, word: &[u8]) -> Found
     Found::Nothing
 }
 
-// The rows of one family in the table of labels.
-struct Rows {
-    first: usize,
-    count: usize,
-}
+// The rows of a family in the table of labels: the first, and how many.
+struct Rows(usize, usize);
 
+// A look-up visits the rows of one family alone.
 fn rows_of(family: Family) -> Rows
-    ensures { λ r. ⌜ Holds labelTable (r .first) (r .count) (labelsOf family) ⌝ }
+    ensures { λ r. ⌜ Holds labelTable (r .0) (r .1) (labelsOf family) ⌝ }
 {
     match family {
-        Family::AbsorptionMode => Rows { first: 0, count: 5 },
-        Family::EliminationMode => Rows { first: 5, count: 4 },
-        Family::PeripheralKind => Rows { first: 9, count: 2 },
-        Family::DepotMode => Rows {
-            first: 11,
-            count: 2,
-        },
-        Family::LagtimeMode => Rows {
-            first: 13,
-            count: 2,
-        },
-        Family::CovariateEffect => Rows {
-            first: 15,
-            count: 7,
-        },
-        Family::PdMode => Rows {
-            first: 22,
-            count: 5,
-        },
-        Family::ProductionMode => Rows {
-            first: 27,
-            count: 2,
-        },
-        Family::MetaboliteMode => Rows {
-            first: 29,
-            count: 2,
-        },
-        Family::VariabilityEffect => Rows {
-            first: 31,
-            count: 5,
-        },
-        Family::VariabilityLevel => Rows {
-            first: 36,
-            count: 2,
-        },
+        Family::AbsorptionMode => Rows(0, 5),
+        Family::EliminationMode => Rows(5, 4),
+        Family::PeripheralKind => Rows(9, 2),
+        Family::DepotMode => Rows(11, 2),
+        Family::LagtimeMode => Rows(13, 2),
+        Family::CovariateEffect => Rows(15, 7),
+        Family::PdMode => Rows(22, 5),
+        Family::ProductionMode => Rows(27, 2),
+        Family::MetaboliteMode => Rows(29, 2),
+        Family::VariabilityEffect => Rows(31, 5),
+        Family::VariabilityLevel => Rows(36, 2),
     }
 }
 
-// The place of a mode's label in its family. The table is lent by the outermost caller, which makes it once.
+// The place of a mode's label in its family. The outermost caller makes the table once and lends it: a constant is built anew wherever it
+// is indexed.
 pub fn find_mode(labels: &[u8; 608], family: Family, word: &[u8]) -> Found
     requires { ⌜ now labels ≡ labelTable ⌝ }
     ensures { λ r. ⌜ r ≡ foundAs (find (now (word .entry)) (labelsOf family)) ⌝ }
 {
     let rows = rows_of(family);
-    find_rows(labels, rows.first, rows.count, word)
+    find_rows(labels, rows.0, rows.1, word)
 }
 
-// The place of a keyword.
+// The place of a keyword, in the table that the outermost caller lends.
 pub fn find_keyword(keys: &[u8; 240], word: &[u8]) -> Found
     requires { ⌜ now keys ≡ keywordTable ⌝ }
     ensures { λ r. ⌜ r ≡ foundAs (find (now (word .entry)) keywords) ⌝ }
@@ -221,7 +196,7 @@ pub fn mode_label(labels: &[u8; 608], family: Family, place: usize) -> &[u8]
     ensures { λ r. ⌜ now r ≡ getD (labelsOf family) place [] ⌝ }
 {
     let rows = rows_of(family);
-    label_at(labels, rows.first + place)
+    label_at(labels, rows.0 + place)
 }
 
 // A keyword, as a part of the table.
@@ -233,7 +208,7 @@ pub fn keyword_label(keys: &[u8; 240], place: usize) -> &[u8]
     label_at(keys, place)
 }
 
-// A look-up that makes its own table.
+// A single look-up, which makes the table itself.
 pub fn mode(family: Family, word: &[u8]) -> Found
     ensures { λ r. ⌜ r ≡ foundAs (find (now (word .entry)) (labelsOf family)) ⌝ }
 {
@@ -241,6 +216,7 @@ pub fn mode(family: Family, word: &[u8]) -> Found
     find_mode(&labels, family, word)
 }
 
+// A single look-up of a keyword.
 pub fn keyword(word: &[u8]) -> Found
     ensures { λ r. ⌜ r ≡ foundAs (find (now (word .entry)) keywords) ⌝ }
 {

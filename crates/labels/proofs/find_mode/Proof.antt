@@ -11,7 +11,7 @@ use Rattle.labels.proofs.find_mode.Tie as tie
 
 -- the family's rows, in what is lent
 rows : (c : tie.After-rows-of)
-    → Holds (now (c .before .before .args .labels)) (c .rows-of .result .first) (c .rows-of .result .count) (labelsOf (c .before .before .args .family))
+    → Holds (now (c .before .before .args .labels)) (c .rows-of .result .0) (c .rows-of .result .1) (labelsOf (c .before .before .args .family))
 rows c = lent _ _ _ _ _ (c .before .before .pre) (c .rows-of .ensures)
 
 rows-of-requires : tie.Need-rows-of-requires

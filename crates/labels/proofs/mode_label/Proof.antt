@@ -16,8 +16,8 @@ use Rattle.labels.proofs.mode_label.Tie as tie
 
 -- the row of the label
 row : (c : tie.After-rows-of)
-    → (rowFits (now (c .before .args .labels)) (c .rows-of .result .first + c .before .args .place) ≡ true)
-    × (labelAt (now (c .before .args .labels)) (c .rows-of .result .first + c .before .args .place) ≡ getD (labelsOf (c .before .args .family)) (c .before .args .place) [])
+    → (rowFits (now (c .before .args .labels)) (c .rows-of .result .0 + c .before .args .place) ≡ true)
+    × (labelAt (now (c .before .args .labels)) (c .rows-of .result .0 + c .before .args .place) ≡ getD (labelsOf (c .before .args .family)) (c .before .args .place) [])
 row c = held-row _ _ _ _ _ (lent _ _ _ _ _ (c .before .pre .0) (c .rows-of .ensures)) (c .before .pre .1)
 
 rows-of-requires : tie.Need-rows-of-requires
@@ -26,7 +26,7 @@ rows-of-requires c κs = search needs
 add-label-at : tie.Need-add-label-at
 add-label-at c =
     let args = c .before .before .before .args in
-    omega (arith, row-within (now (args .labels)) (c .before .before .rows-of .result .first + args .place) (row (c .before .before) .0))
+    omega (arith, row-within (now (args .labels)) (c .before .before .rows-of .result .0 + args .place) (row (c .before .before) .0))
 
 label-at-requires : tie.Need-label-at-requires
 label-at-requires c κs = row (c .before .before) .0

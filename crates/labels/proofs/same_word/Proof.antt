@@ -36,10 +36,10 @@ told c =
     ∙ rw (c .before .before .lower-byte .ensures, c .lower-byte2 .ensures)
 
 returns : tie.Need-returns Inv-loop μ-loop
-returns c = sym (lengths-differ _ _ (c .if1 .taken))
+returns c = sym (lengths-differ _ _ (omega arith))
 
 loop-holds : tie.Need-loop-holds Inv-loop μ-loop
-loop-holds c = (omega arith, c .if1 .left, refl)
+loop-holds c = (omega arith, omega arith, refl)
 
 shared-slice-read-lower-byte : tie.Need-shared-slice-read-lower-byte Inv-loop μ-loop
 shared-slice-read-lower-byte c = omega arith
