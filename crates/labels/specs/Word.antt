@@ -25,6 +25,7 @@ unfoldable pub find : List ℕ → List (List ℕ) → Option ℕ
 find w [] = none
 find w (l ∷ ls) = cond (sameWord w l) (some 0) (oneLater (find w ls))
 
+-- nothing was found
 abbrev pub absent : Option ℕ → Bool
 absent none = true
 absent (some i) = false
