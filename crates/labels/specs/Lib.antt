@@ -1,3 +1,4 @@
 pub mod Word
 pub mod Label
 pub mod Table
+pub mod Row

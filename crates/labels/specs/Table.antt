@@ -1,7 +1,7 @@
 -- Document 01, Forms: "one label table with family marks, one proof for all families". A table is rows of 16 bytes: the mark of
 -- the family, the number of the label's bytes, the label, and zeros.
 use Prim.Native.Nat.{ℕ, _-_}
-use mathlib.Core.List.{List, [], _∷_, _++_, map}
+use mathlib.Core.List.{List, [], _∷_, _++_}
 use mathlib.Core.Option.{Option, some, none}
 use lib.ListN.{length, replicate}
 use Rattle.labels.specs.declared.Family.{Family}

@@ -24,3 +24,13 @@ oneLater (some i) = some (suc i)
 unfoldable pub find : List ℕ → List (List ℕ) → Option ℕ
 find w [] = none
 find w (l ∷ ls) = cond (sameWord w l) (some 0) (oneLater (find w ls))
+
+-- nothing was found
+abbrev pub absent : Option ℕ → Bool
+absent none = true
+absent (some i) = false
+
+-- no two labels of the list are the same word
+unfoldable pub distinct : List (List ℕ) → Bool
+distinct [] = true
+distinct (l ∷ ls) = absent (find l ls) && distinct ls

@@ -1,8 +1,13 @@
 // The labels of the modes and the keywords of the features: looked up ignoring case, and given by their places.
 ghost use mathlib.Core.Path.{_≡_};
-ghost use Rattle.labels.specs.Word.{find};
+ghost use mathlib.Core.Bool.{true};
+ghost use mathlib.Core.List.{[]};
+ghost use Prim.Native.Nat.{_<_};
+ghost use lib.ListN.{length, getD};
+ghost use Rattle.labels.specs.Word.{lower, sameWord, find};
 ghost use Rattle.labels.specs.Label.{labelsOf, keywords};
 ghost use Rattle.labels.specs.Table.{labelTable, keywordTable, foundAs};
+ghost use Rattle.labels.specs.Row.{labelAt, labelsIn, rowFits, rowsFit, Holds};
 
 // The mode families of the grammar.
 pub enum Family {
@@ -26,61 +31,195 @@ pub enum Found {
 }
 
 // A row a label: its family's mark, the number of its bytes, its bytes, and zeros up to 16.
-pub const LABELS: [u8; 608] = [
-    0, 4, 73, 78, 83, 84, 0, 0, 0, 0, 0, 0, 0, 0, 0, 0,
-    0, 2, 70, 79, 0, 0, 0, 0, 0, 0, 0, 0, 0, 0, 0, 0,
-    0, 2, 90, 79, 0, 0, 0, 0, 0, 0, 0, 0, 0, 0, 0, 0,
-    0, 9, 83, 69, 81, 45, 90, 79, 45, 70, 79, 0, 0, 0, 0, 0,
-    0, 7, 87, 69, 73, 66, 85, 76, 76, 0, 0, 0, 0, 0, 0, 0,
-    1, 2, 70, 79, 0, 0, 0, 0, 0, 0, 0, 0, 0, 0, 0, 0,
-    1, 2, 90, 79, 0, 0, 0, 0, 0, 0, 0, 0, 0, 0, 0, 0,
-    1, 2, 77, 77, 0, 0, 0, 0, 0, 0, 0, 0, 0, 0, 0, 0,
-    1, 9, 77, 73, 88, 45, 70, 79, 45, 77, 77, 0, 0, 0, 0, 0,
-    2, 4, 68, 82, 85, 71, 0, 0, 0, 0, 0, 0, 0, 0, 0, 0,
-    2, 3, 77, 69, 84, 0, 0, 0, 0, 0, 0, 0, 0, 0, 0, 0,
-    3, 5, 68, 69, 80, 79, 84, 0, 0, 0, 0, 0, 0, 0, 0, 0,
-    3, 7, 78, 79, 68, 69, 80, 79, 84, 0, 0, 0, 0, 0, 0, 0,
-    4, 3, 79, 70, 70, 0, 0, 0, 0, 0, 0, 0, 0, 0, 0, 0,
-    4, 2, 79, 78, 0, 0, 0, 0, 0, 0, 0, 0, 0, 0, 0, 0,
-    5, 3, 108, 105, 110, 0, 0, 0, 0, 0, 0, 0, 0, 0, 0, 0,
-    5, 9, 112, 105, 101, 99, 101, 95, 108, 105, 110, 0, 0, 0, 0, 0,
-    5, 3, 101, 120, 112, 0, 0, 0, 0, 0, 0, 0, 0, 0, 0, 0,
-    5, 3, 112, 111, 119, 0, 0, 0, 0, 0, 0, 0, 0, 0, 0, 0,
-    5, 3, 99, 97, 116, 0, 0, 0, 0, 0, 0, 0, 0, 0, 0, 0,
-    5, 4, 99, 97, 116, 50, 0, 0, 0, 0, 0, 0, 0, 0, 0, 0,
-    5, 6, 99, 117, 115, 116, 111, 109, 0, 0, 0, 0, 0, 0, 0, 0,
-    6, 6, 76, 73, 78, 69, 65, 82, 0, 0, 0, 0, 0, 0, 0, 0,
-    6, 4, 69, 77, 65, 88, 0, 0, 0, 0, 0, 0, 0, 0, 0, 0,
-    6, 7, 83, 73, 71, 77, 79, 73, 68, 0, 0, 0, 0, 0, 0, 0,
-    6, 4, 83, 84, 69, 80, 0, 0, 0, 0, 0, 0, 0, 0, 0, 0,
-    6, 6, 76, 79, 71, 76, 73, 78, 0, 0, 0, 0, 0, 0, 0, 0,
-    7, 10, 80, 82, 79, 68, 85, 67, 84, 73, 79, 78, 0, 0, 0, 0,
-    7, 11, 68, 69, 71, 82, 65, 68, 65, 84, 73, 79, 78, 0, 0, 0,
-    8, 5, 66, 65, 83, 73, 67, 0, 0, 0, 0, 0, 0, 0, 0, 0,
-    8, 3, 80, 83, 67, 0, 0, 0, 0, 0, 0, 0, 0, 0, 0, 0,
-    9, 3, 69, 88, 80, 0, 0, 0, 0, 0, 0, 0, 0, 0, 0, 0,
-    9, 3, 65, 68, 68, 0, 0, 0, 0, 0, 0, 0, 0, 0, 0, 0,
-    9, 4, 80, 82, 79, 80, 0, 0, 0, 0, 0, 0, 0, 0, 0, 0,
-    9, 3, 76, 79, 71, 0, 0, 0, 0, 0, 0, 0, 0, 0, 0, 0,
-    9, 6, 82, 69, 95, 76, 79, 71, 0, 0, 0, 0, 0, 0, 0, 0,
-    10, 3, 73, 73, 86, 0, 0, 0, 0, 0, 0, 0, 0, 0, 0, 0,
-    10, 3, 73, 79, 86, 0, 0, 0, 0, 0, 0, 0, 0, 0, 0, 0,
-];
+pub const LABELS: [u8; 608] = *b"\
+    \x00\x04INST\0\0\0\0\0\0\0\0\0\0\
+    \x00\x02FO\0\0\0\0\0\0\0\0\0\0\0\0\
+    \x00\x02ZO\0\0\0\0\0\0\0\0\0\0\0\0\
+    \x00\x09SEQ-ZO-FO\0\0\0\0\0\
+    \x00\x07WEIBULL\0\0\0\0\0\0\0\
+    \x01\x02FO\0\0\0\0\0\0\0\0\0\0\0\0\
+    \x01\x02ZO\0\0\0\0\0\0\0\0\0\0\0\0\
+    \x01\x02MM\0\0\0\0\0\0\0\0\0\0\0\0\
+    \x01\x09MIX-FO-MM\0\0\0\0\0\
+    \x02\x04DRUG\0\0\0\0\0\0\0\0\0\0\
+    \x02\x03MET\0\0\0\0\0\0\0\0\0\0\0\
+    \x03\x05DEPOT\0\0\0\0\0\0\0\0\0\
+    \x03\x07NODEPOT\0\0\0\0\0\0\0\
+    \x04\x03OFF\0\0\0\0\0\0\0\0\0\0\0\
+    \x04\x02ON\0\0\0\0\0\0\0\0\0\0\0\0\
+    \x05\x03lin\0\0\0\0\0\0\0\0\0\0\0\
+    \x05\x09piece_lin\0\0\0\0\0\
+    \x05\x03exp\0\0\0\0\0\0\0\0\0\0\0\
+    \x05\x03pow\0\0\0\0\0\0\0\0\0\0\0\
+    \x05\x03cat\0\0\0\0\0\0\0\0\0\0\0\
+    \x05\x04cat2\0\0\0\0\0\0\0\0\0\0\
+    \x05\x06custom\0\0\0\0\0\0\0\0\
+    \x06\x06LINEAR\0\0\0\0\0\0\0\0\
+    \x06\x04EMAX\0\0\0\0\0\0\0\0\0\0\
+    \x06\x07SIGMOID\0\0\0\0\0\0\0\
+    \x06\x04STEP\0\0\0\0\0\0\0\0\0\0\
+    \x06\x06LOGLIN\0\0\0\0\0\0\0\0\
+    \x07\x0aPRODUCTION\0\0\0\0\
+    \x07\x0bDEGRADATION\0\0\0\
+    \x08\x05BASIC\0\0\0\0\0\0\0\0\0\
+    \x08\x03PSC\0\0\0\0\0\0\0\0\0\0\0\
+    \x09\x03EXP\0\0\0\0\0\0\0\0\0\0\0\
+    \x09\x03ADD\0\0\0\0\0\0\0\0\0\0\0\
+    \x09\x04PROP\0\0\0\0\0\0\0\0\0\0\
+    \x09\x03LOG\0\0\0\0\0\0\0\0\0\0\0\
+    \x09\x06RE_LOG\0\0\0\0\0\0\0\0\
+    \x0a\x03IIV\0\0\0\0\0\0\0\0\0\0\0\
+    \x0a\x03IOV\0\0\0\0\0\0\0\0\0\0\0\
+";
 
-pub const KEYWORDS: [u8; 240] = [
-    0, 10, 65, 66, 83, 79, 82, 80, 84, 73, 79, 78, 0, 0, 0, 0,
-    0, 11, 69, 76, 73, 77, 73, 78, 65, 84, 73, 79, 78, 0, 0, 0,
-    0, 11, 80, 69, 82, 73, 80, 72, 69, 82, 65, 76, 83, 0, 0, 0,
-    0, 8, 84, 82, 65, 78, 83, 73, 84, 83, 0, 0, 0, 0, 0, 0,
-    0, 7, 76, 65, 71, 84, 73, 77, 69, 0, 0, 0, 0, 0, 0, 0,
-    0, 9, 67, 79, 86, 65, 82, 73, 65, 84, 69, 0, 0, 0, 0, 0,
-    0, 9, 65, 76, 76, 79, 77, 69, 84, 82, 89, 0, 0, 0, 0, 0,
-    0, 12, 68, 73, 82, 69, 67, 84, 69, 70, 70, 69, 67, 84, 0, 0,
-    0, 10, 69, 70, 70, 69, 67, 84, 67, 79, 77, 80, 0, 0, 0, 0,
-    0, 14, 73, 78, 68, 73, 82, 69, 67, 84, 69, 70, 70, 69, 67, 84,
-    0, 10, 77, 69, 84, 65, 66, 79, 76, 73, 84, 69, 0, 0, 0, 0,
-    0, 3, 73, 73, 86, 0, 0, 0, 0, 0, 0, 0, 0, 0, 0, 0,
-    0, 3, 73, 79, 86, 0, 0, 0, 0, 0, 0, 0, 0, 0, 0, 0,
-    0, 10, 67, 79, 86, 65, 82, 73, 65, 78, 67, 69, 0, 0, 0, 0,
-    0, 3, 76, 69, 84, 0, 0, 0, 0, 0, 0, 0, 0, 0, 0, 0,
-];
+pub const KEYWORDS: [u8; 240] = *b"\
+    \x00\x0aABSORPTION\0\0\0\0\
+    \x00\x0bELIMINATION\0\0\0\
+    \x00\x0bPERIPHERALS\0\0\0\
+    \x00\x08TRANSITS\0\0\0\0\0\0\
+    \x00\x07LAGTIME\0\0\0\0\0\0\0\
+    \x00\x09COVARIATE\0\0\0\0\0\
+    \x00\x09ALLOMETRY\0\0\0\0\0\
+    \x00\x0cDIRECTEFFECT\0\0\
+    \x00\x0aEFFECTCOMP\0\0\0\0\
+    \x00\x0eINDIRECTEFFECT\
+    \x00\x0aMETABOLITE\0\0\0\0\
+    \x00\x03IIV\0\0\0\0\0\0\0\0\0\0\0\
+    \x00\x03IOV\0\0\0\0\0\0\0\0\0\0\0\
+    \x00\x0aCOVARIANCE\0\0\0\0\
+    \x00\x03LET\0\0\0\0\0\0\0\0\0\0\0\
+";
+
+// A letter's lower case, as ASCII has it.
+fn lower_byte(b: u8) -> u8
+    ensures { λ r. ⌜ r ≡ lower b ⌝ }
+{
+    if b'A' <= b {
+        if b <= b'Z' {
+            return b + 32;
+        }
+    }
+    b
+}
+
+// The lengths are compared before the bytes: most labels differ from a word there already.
+fn same_word(word: &[u8], label: &[u8]) -> bool
+    ensures { λ r. ⌜ r ≡ sameWord (now (word .entry)) (now (label .entry)) ⌝ }
+{
+    if word.len() != label.len() {
+        return false;
+    }
+    let mut i = 0;
+    while i < word.len() {
+        let a = lower_byte(word[i]);
+        let b = lower_byte(label[i]);
+        if a != b {
+            return false;
+        }
+        i += 1;
+    }
+    true
+}
+
+// The label of a row, as a part of the table.
+fn label_at(table: &[u8], row: usize) -> &[u8]
+    requires { ⌜ rowFits (now table) row ≡ true ⌝ }
+    ensures { λ r. ⌜ now r ≡ labelAt (now (table .entry)) row ⌝ }
+{
+    let at = 16 * row;
+    let count = table[at + 1] as usize;
+    let start = at + 2;
+    let end = start + count;
+    &table[start..end]
+}
+
+// The place of a word among the labels of some rows, for both tables.
+fn find_rows(table: &[u8], first: usize, count: usize, word: &[u8]) -> Found
+    requires { ⌜ rowsFit (now table) first count ≡ true ⌝ }
+    ensures { λ r. ⌜ r ≡ foundAs (find (now (word .entry)) (labelsIn (now (table .entry)) first count)) ⌝ }
+{
+    let mut place = 0;
+    while place < count {
+        let label = label_at(table, first + place);
+        if same_word(word, label) {
+            return Found::Place(place);
+        }
+        place += 1;
+    }
+    Found::Nothing
+}
+
+// The rows of a family in the table of labels: the first, and how many.
+struct Rows(usize, usize);
+
+// A look-up visits the rows of one family alone.
+fn rows_of(family: Family) -> Rows
+    ensures { λ r. ⌜ Holds labelTable (r .0) (r .1) (labelsOf family) ⌝ }
+{
+    match family {
+        Family::AbsorptionMode => Rows(0, 5),
+        Family::EliminationMode => Rows(5, 4),
+        Family::PeripheralKind => Rows(9, 2),
+        Family::DepotMode => Rows(11, 2),
+        Family::LagtimeMode => Rows(13, 2),
+        Family::CovariateEffect => Rows(15, 7),
+        Family::PdMode => Rows(22, 5),
+        Family::ProductionMode => Rows(27, 2),
+        Family::MetaboliteMode => Rows(29, 2),
+        Family::VariabilityEffect => Rows(31, 5),
+        Family::VariabilityLevel => Rows(36, 2),
+    }
+}
+
+// The place of a mode's label in its family. The outermost caller makes the table once and lends it: a constant is built anew wherever it
+// is indexed.
+pub fn find_mode(labels: &[u8; 608], family: Family, word: &[u8]) -> Found
+    requires { ⌜ now labels ≡ labelTable ⌝ }
+    ensures { λ r. ⌜ r ≡ foundAs (find (now (word .entry)) (labelsOf family)) ⌝ }
+{
+    let rows = rows_of(family);
+    find_rows(labels, rows.0, rows.1, word)
+}
+
+// The place of a keyword, in the table that the outermost caller lends.
+pub fn find_keyword(keys: &[u8; 240], word: &[u8]) -> Found
+    requires { ⌜ now keys ≡ keywordTable ⌝ }
+    ensures { λ r. ⌜ r ≡ foundAs (find (now (word .entry)) keywords) ⌝ }
+{
+    find_rows(keys, 0, 15, word)
+}
+
+// The label of a mode, as a part of the table.
+pub fn mode_label(labels: &[u8; 608], family: Family, place: usize) -> &[u8]
+    requires { ⌜ now labels ≡ labelTable ⌝ }
+    requires { ⌜ place < length (labelsOf family) ⌝ }
+    ensures { λ r. ⌜ now r ≡ getD (labelsOf family) place [] ⌝ }
+{
+    let rows = rows_of(family);
+    label_at(labels, rows.0 + place)
+}
+
+// A keyword, as a part of the table.
+pub fn keyword_label(keys: &[u8; 240], place: usize) -> &[u8]
+    requires { ⌜ now keys ≡ keywordTable ⌝ }
+    requires { ⌜ place < length keywords ⌝ }
+    ensures { λ r. ⌜ now r ≡ getD keywords place [] ⌝ }
+{
+    label_at(keys, place)
+}
+
+// A single look-up, which makes the table itself.
+pub fn mode(family: Family, word: &[u8]) -> Found
+    ensures { λ r. ⌜ r ≡ foundAs (find (now (word .entry)) (labelsOf family)) ⌝ }
+{
+    let labels = LABELS;
+    find_mode(&labels, family, word)
+}
+
+// A single look-up of a keyword.
+pub fn keyword(word: &[u8]) -> Found
+    ensures { λ r. ⌜ r ≡ foundAs (find (now (word .entry)) keywords) ⌝ }
+{
+    let keys = KEYWORDS;
+    find_keyword(&keys, word)
+}

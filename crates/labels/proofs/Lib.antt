@@ -1,0 +1,5 @@
+pub mod Words
+pub mod Finding
+pub mod Distinct
+pub mod Tables
+pub mod Scanning

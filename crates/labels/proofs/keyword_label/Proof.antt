@@ -1,0 +1,27 @@
+-- `labels::keyword_label` meets its contract: the row at the place holds the keyword.
+-- Assumes nothing.
+use mathlib.Core.Path.{_≡_, _∙_}
+use mathlib.Core.Bool.{true}
+use mathlib.Core.List.{[]}
+use native.Mathlib.Nat.{zero-add}
+use lib.ListN.{getD}
+use denote.Ref.{now}
+use Rattle.labels.specs.Label.{keywords}
+use Rattle.labels.specs.Row.{labelAt, rowFits}
+use Rattle.labels.proofs.Tables.{held-row, lent, keywords-held}
+use Rattle.labels.proofs.keyword_label.Statement.{statement}
+use Rattle.labels.proofs.keyword_label.Tie as tie
+
+-- the row of the keyword
+row : (c : tie.Start)
+    → (rowFits (now (c .args .keys)) (c .args .place) ≡ true) × (labelAt (now (c .args .keys)) (c .args .place) ≡ getD keywords (c .args .place) [])
+row c = rw (zero-add (c .args .place)) at (held-row _ _ _ _ (c .args .place) (lent _ _ _ _ _ (c .pre .0) keywords-held) (c .pre .1))
+
+label-at-requires : tie.Need-label-at-requires
+label-at-requires c κs = row (c .before) .0
+
+returns : tie.Need-returns
+returns c = c .label-at .ensures ∙ row (c .before .before) .1
+
+pub keyword-label-spec : {M : Type 1} → statement M
+keyword-label-spec = tie.close (tie.spec label-at-requires returns)
