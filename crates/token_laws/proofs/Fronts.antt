@@ -1,51 +1,20 @@
 -- What stands at a byte, in a text with more behind it: runs, numbers and tokens are the same where the rest does not go on with them.
 -- Assumes nothing.
-use mathlib.Core.Path.{_≡_, refl, _∙_, ap, sym}
-use mathlib.Core.Bool.{Bool, true, false, cond, and-false, true≢false, false≢true, _&&_, _||_}
+use mathlib.Core.Path.{_≡_, refl, ap}
+use mathlib.Core.Bool.{Bool, true, false, cond, and-false, _&&_}
 use mathlib.Core.List.{List, [], _∷_, _++_}
-use Prim.Native.Nat.{ℕ, zero, suc, _+_, _<_, _≤_}
+use Prim.Native.Nat.{ℕ, suc, _+_, _≤_}
 use native.Mathlib.Omega.{arith}
-use lib.ListN.{length, take, drop}
-use lib.Seq.{take-append-le, drop-append-le}
+use lib.ListN.{length, drop}
+use lib.Seq.{drop-append-le}
 use Rattle.text.specs.Bytes.{span}
-use Rattle.tokens.specs.Class.{
-  Class,
-  newline,
-  semicolon,
-  mark,
-  dot,
-  blank,
-  hash,
-  other,
-  hyphen,
-  digit,
-  letter,
-  classOf,
-  isA,
-}
-use Rattle.tokens.specs.Token.{Shape, Token, Tokens, finish, bad, _▸_, range}
-use Rattle.tokens.specs.Token as shapes
-use Rattle.tokens.specs.Lex.{Front, skip, taken, wrong, inWord, inNumber, inComment, fraction, numberRest, dots, frontOf, follow}
+use Rattle.tokens.specs.Class.{Class, newline, semicolon, mark, dot, blank, hash, other, hyphen, digit, letter, isA}
+use Rattle.tokens.specs.Token.{range}
+use Rattle.tokens.specs.Lex.{Front, skip, taken, wrong, inWord, inNumber, inComment, fraction, numberRest, dots, frontOf}
 use Rattle.tokens.proofs.Runs.{span-most}
 use Rattle.tokens.proofs.Numbers.{number-most}
 use Rattle.token_laws.specs.Follow.{startsWith, moreNumber}
-
--- the parts of a test that passes, and of one that fails
-pub and-left : (a b : Bool) → (a && b) ≡ true → a ≡ true
-and-left true b e = refl
-and-left false b e = e
-
-pub and-right : (a b : Bool) → (a && b) ≡ true → b ≡ true
-and-right true b e = e
-and-right false b e = absurd (false≢true e)
-
-pub or-left : (a b : Bool) → (a || b) ≡ false → a ≡ false
-or-left true b e = e
-or-left false b e = refl
-
-pub or-right : (a b : Bool) → (a || b) ≡ false → b ≡ false
-or-right true b e = absurd (true≢false e)
-or-right false b e = e
+use Rattle.token_laws.proofs.Tests.{or-left, or-right}
 
 -- a run ends where a text is followed by a byte that fails the test
 pub span-append : (p : ℕ → Bool) (l r : List ℕ) → startsWith p r ≡ false → span p (l ++ r) ≡ span p l

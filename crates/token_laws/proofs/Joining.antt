@@ -1,48 +1,17 @@
 -- The tokens of a text made of two with a newline between, and of a text that stands further on.
 -- Assumes nothing.
 use mathlib.Core.Path.{_≡_, refl, _∙_, ap, sym}
-use mathlib.Core.Bool.{Bool, true, false, cond}
 use mathlib.Core.List.{List, [], _∷_, _++_}
-use Prim.Native.Nat.{ℕ, zero, suc, _+_, _<_, _≤_}
+use Prim.Native.Nat.{ℕ, zero, suc, _+_, _≤_}
 use native.Mathlib.Nat.{suc-add, zero-add, le-of-suc-le-suc}
 use native.Mathlib.Numerals.{add-one}
 use native.Mathlib.Omega.{arith}
-use lib.ListN.{length, take}
+use lib.ListN.{length}
 use lib.Seq.{take-append-le}
 use Rattle.text.specs.Bytes.{span}
-use Rattle.tokens.specs.Class.{
-  Class,
-  newline,
-  semicolon,
-  mark,
-  dot,
-  blank,
-  hash,
-  other,
-  hyphen,
-  digit,
-  letter,
-  classOf,
-  isA,
-}
-use Rattle.tokens.specs.Token.{Shape, Token, Tokens, finish, bad, _▸_, separator, range}
-use Rattle.tokens.specs.Token as shapes
-use Rattle.tokens.specs.Lex.{
-  Front,
-  skip,
-  taken,
-  wrong,
-  inWord,
-  inNumber,
-  inComment,
-  numberRest,
-  dots,
-  frontOf,
-  follow,
-  tokensAfter,
-  tokensAt,
-  tokens,
-}
+use Rattle.tokens.specs.Class.{Class, newline, semicolon, mark, dot, blank, hash, other, hyphen, digit, letter, classOf}
+use Rattle.tokens.specs.Token.{Tokens, _▸_, separator}
+use Rattle.tokens.specs.Lex.{Front, skip, taken, wrong, inWord, inComment, numberRest, dots, frontOf, follow, tokensAfter, tokensAt, tokens}
 use Rattle.tokens.proofs.Runs.{span-most}
 use Rattle.tokens.proofs.Numbers.{number-most}
 use Rattle.tokens.proofs.Steps.{token}
@@ -108,6 +77,7 @@ pub tokens-join :
     ≡ append (tokensAt o a) (record { place = o + length a; shape = separator } ▸ tokensAt (o + length a + 1) b)
 tokens-join o a b = join-after 0 o (o + length a) a b (omega arith) refl
 
+-- what comes after what stands at a byte is as much later where it goes on so from there
 follow-raise :
     (f : Front) (o d : ℕ) (g h : ℕ → Tokens)
     → g (reach f) ≡ raise d (h (reach f)) → follow f (o + d) g ≡ raise d (follow f o h)

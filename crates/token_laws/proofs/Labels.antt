@@ -1,10 +1,9 @@
 -- Each label and each keyword is one word.
 -- Assumes nothing.
-use mathlib.Core.Path.{_≡_, refl, _∙_, ap, sym}
-use mathlib.Core.Bool.{Bool, true, false, _&&_}
-use mathlib.Core.List.{List, [], _∷_, _++_}
-use Prim.Native.Nat.{ℕ, zero, suc, _+_, _<_}
-use native.Mathlib.Nat.{le-of-suc-le-suc, not-suc-le-zero}
+use mathlib.Core.Path.{_≡_, refl}
+use mathlib.Core.Bool.{true, false}
+use mathlib.Core.List.{List, [], _++_}
+use Prim.Native.Nat.{ℕ, _+_, _<_}
 use lib.ListN.{length, getD}
 use Rattle.tokens.specs.Class.{classOf}
 use Rattle.tokens.specs.Token.{_▸_, word}
@@ -27,16 +26,10 @@ use Rattle.labels.specs.declared.Family.the-variants.{
 }
 use Rattle.token_laws.specs.Follow.{startsWith}
 use Rattle.token_laws.specs.Shaped.{all}
-use Rattle.token_laws.proofs.Fronts.{and-left, and-right}
+use Rattle.token_laws.proofs.Tests.{all-at}
 use Rattle.token_laws.proofs.Spelled.{word-first}
 
--- a test that all the elements of a list pass is passed at each index
-pub all-at : {A : Type 0} (p : A → Bool) (xs : List A) (i : ℕ) (d : A) → all p xs ≡ true → i < length xs → p (getD xs i d) ≡ true
-all-at p [] i d e h = absurd (not-suc-le-zero h)
-all-at p (x ∷ xs) zero d e h = and-left (p x) (all p xs) e
-all-at p (x ∷ xs) (suc i) d e h = all-at p xs i d (and-right (p x) (all p xs) e) (le-of-suc-le-suc h)
-
--- the tests, computed
+-- all of a family's labels are words, and all the keywords: tests that compute
 labels-words : (f : Family) → all isWord (labelsOf f) ≡ true
 unfolding labelsOf classOf
 labels-words AbsorptionMode = refl

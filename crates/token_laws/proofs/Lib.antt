@@ -1,3 +1,4 @@
+pub mod Tests
 pub mod Fronts
 pub mod Joining
 pub mod Shapes

@@ -1,80 +1,28 @@
 -- Every token of any text has a shape that tokens have: a word's bytes are one word, and a number's are one number.
 -- Assumes nothing.
-use mathlib.Core.Path.{_≡_, refl, _∙_, ap, sym, subst}
-use mathlib.Core.Bool.{Bool, true, false, cond, false≢true, _&&_, _||_}
+use mathlib.Core.Path.{_≡_, refl, _∙_, ap}
+use mathlib.Core.Bool.{Bool, true, false, cond, _&&_, _||_}
 use mathlib.Core.List.{List, [], _∷_, _++_}
-use Prim.Native.Nat.{ℕ, zero, suc, _+_, _<_, _≤_}
+use Prim.Native.Nat.{ℕ, zero, suc, _+_}
 use native.Mathlib.Omega.{arith}
-use borrow.Author.Tests.{eqb-true, eq-eqb, ne-eqb}
+use borrow.Author.Tests.{eqb-true, eq-eqb}
 use lib.Dec.{eqb}
-use lib.ListN.{length, take, drop}
+use lib.ListN.{take, drop}
 use lib.Seq.{length-take-le, take-add, drop-at}
-use Rattle.text.specs.Bytes.{bytes, is, memberOf, among, span, every, between}
-use Rattle.tokens.specs.Class.{
-  Class,
-  newline,
-  semicolon,
-  mark,
-  dot,
-  blank,
-  hash,
-  other,
-  hyphen,
-  digit,
-  letter,
-  number,
-  classOf,
-  classNumber,
-  isA,
-}
-use Rattle.tokens.specs.Token.{Shape, Token, Tokens, finish, bad, _▸_, range}
+use Rattle.text.specs.Bytes.{bytes, is, among, span, between}
+use Rattle.tokens.specs.Class.{Class, newline, semicolon, mark, dot, blank, hash, other, hyphen, digit, letter, number, classOf, classNumber, isA}
+use Rattle.tokens.specs.Token.{Tokens, range}
 use Rattle.tokens.specs.Token as shapes
-use Rattle.tokens.specs.Lex.{
-  Front,
-  skip,
-  taken,
-  wrong,
-  inWord,
-  inNumber,
-  fraction,
-  numberRest,
-  dots,
-  frontOf,
-  follow,
-  tokensAfter,
-  tokensAt,
-}
-use Rattle.tokens.specs.Spelling.{isWord, isNumber, isShape}
+use Rattle.tokens.specs.Lex.{Front, skip, taken, wrong, inWord, inNumber, fraction, numberRest, dots, frontOf, follow, tokensAfter, tokensAt}
+use Rattle.tokens.specs.Spelling.{isShape}
 use Rattle.tokens.proofs.Runs.{span-most}
 use Rattle.tokens.proofs.Numbers.{number-most}
 use Rattle.token_laws.specs.Follow.{startsWith}
 use Rattle.token_laws.specs.Shaped.{allShapes}
-use Rattle.token_laws.proofs.Fronts.{and-left, and-right, span-append, reach}
+use Rattle.token_laws.proofs.Tests.{every-member, every-run, span-every}
+use Rattle.token_laws.proofs.Fronts.{span-append, reach}
 
--- a test that all the bytes of a list pass is passed by each
-pub every-member : (q : ℕ → Bool) (xs : List ℕ) (b : ℕ) → every q xs ≡ true → memberOf xs b ≡ true → q b ≡ true
-every-member q [] b e m = absurd (false≢true m)
-every-member q (x ∷ xs) b e m =
-    go (eqb b x) refl m (λ h. every-member q xs b (and-right (q x) (every q xs) e) h)
-  where
-    go : (t : Bool) → eqb b x ≡ t → (t || memberOf xs b) ≡ true → (memberOf xs b ≡ true → q b ≡ true) → q b ≡ true
-    go true t m h = ap q (eqb-true b x t) ∙ and-left (q x) (every q xs) e
-    go false t m h = h m
-
--- a run's bytes pass its test, and are the run again
-pub every-run : (p : ℕ → Bool) (l : List ℕ) → every p (take (span p l) l) ≡ true
-every-run p [] = refl
-every-run p (b ∷ bs) = go (p b) refl (every-run p bs)
-  where
-    go : (t : Bool) → p b ≡ t → every p (take (span p bs) bs) ≡ true → every p (take (cond t (suc (span p bs)) 0) (b ∷ bs)) ≡ true
-    go true e h = simp (e, h)
-    go false e h = refl
-
-pub span-every : (p : ℕ → Bool) (l : List ℕ) → every p l ≡ true → span p l ≡ length l
-span-every p [] e = refl
-span-every p (b ∷ bs) e =
-    simp (and-left (p b) (every p bs) e, span-every p bs (and-right (p b) (every p bs) e))
-
+-- a run's bytes are the run again
 run-again : (p : ℕ → Bool) (l : List ℕ) → span p (take (span p l) l) ≡ span p l
 run-again p l = span-every p (take (span p l) l) (every-run p l) ∙ length-take-le (span p l) l (span-most p l)
 
@@ -123,12 +71,14 @@ number-again l =
   where
     digits : ℕ
     digits = span inNumber l
+
     points : ℕ
     points = fraction (drop digits l)
+
     rest : List ℕ
     rest = take points (drop digits l)
 
--- the tests of a byte's class, where they come out as a mark
+-- where the tests for a byte's class come out as a mark, the third has passed
 chain :
     (a b c d e f g h i : Bool)
     → cond a newline (cond b semicolon (cond c mark (cond d dot (cond e blank (cond f hash (cond g hyphen (cond h digit (cond i letter other)))))))) ≡ mark
@@ -144,7 +94,7 @@ chain false false false false false false false true i k = absurd (omega (arith,
 chain false false false false false false false false true k = absurd (omega (arith, ap number k))
 chain false false false false false false false false false k = absurd (omega (arith, ap number k))
 
--- a mark's class has the marks' bytes
+-- a byte of the marks' class is one of the marks
 marked : (b : ℕ) → classOf b ≡ mark → among "()[],*+?@" b ≡ true
 unfolding classOf
 marked b e =

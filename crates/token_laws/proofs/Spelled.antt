@@ -1,27 +1,27 @@
 -- The tokens of bytes that are spelled, with what may follow them.
 -- Assumes nothing.
 use mathlib.Core.Path.{_≡_, refl, _∙_, ap, sym, subst}
-use mathlib.Core.Bool.{Bool, true, false, cond, not, false≢true, _&&_, _||_}
+use mathlib.Core.Bool.{Bool, true, false, cond, not, false≢true, _||_}
 use mathlib.Core.List.{List, [], _∷_, _++_, append-nil}
-use Prim.Native.Nat.{ℕ, zero, suc, _+_}
+use Prim.Native.Nat.{ℕ, suc, _+_}
 use native.Mathlib.Omega.{arith}
 use borrow.Author.Tests.{eqb-true, not-true}
 use lib.Dec.{eqb}
 use lib.ListN.{length, take}
 use lib.Seq.{take-append-seam, drop-append-seam}
 use Rattle.text.specs.Bytes.{bytes, is, among, every, span}
-use Rattle.tokens.specs.Class.{Class, semicolon, mark, dot, digit, letter, classOf, classNumber, isA}
-use Rattle.tokens.specs.Token.{Shape, Token, Tokens, finish, _▸_, range, width}
+use Rattle.tokens.specs.Class.{Class, semicolon, mark, dot, digit, letter, classOf, isA}
+use Rattle.tokens.specs.Token.{Shape, Tokens, finish, _▸_, range, width}
 use Rattle.tokens.specs.Token as shapes
-use Rattle.tokens.specs.Lex.{Front, taken, inWord, inNumber, numberRest, dots, frontOf, follow, tokensAfter, tokensAt, tokens}
+use Rattle.tokens.specs.Lex.{Front, taken, inWord, numberRest, dots, frontOf, follow, tokensAfter, tokensAt, tokens}
 use Rattle.tokens.specs.Spelling.{isWord, isNumber, isShape, spell, spellAll, isMark, apart}
 use Rattle.tokens.proofs.Classes.{class-by-number}
 use Rattle.tokens.proofs.Steps.{token, passed-by}
 use Rattle.token_laws.specs.Join.{placed}
 use Rattle.token_laws.specs.Follow.{startsWith, moreNumber, mayFollow}
 use Rattle.token_laws.specs.Shaped.{all}
-use Rattle.token_laws.proofs.Fronts.{and-left, and-right, span-append, number-append}
-use Rattle.token_laws.proofs.Shapes.{every-member, span-every}
+use Rattle.token_laws.proofs.Tests.{and-left, and-right, every-member, span-every}
+use Rattle.token_laws.proofs.Fronts.{span-append, number-append}
 
 -- a token whose bytes are those before the rest
 first-of :
@@ -76,7 +76,7 @@ number-first o (b ∷ bs) rest e f =
     (took shapes.number b (numberRest (bs ++ rest)) bs rest
     (number-append bs rest f ∙ eqb-true _ _ (and-right (isA digit b) (eqb (numberRest bs) (length bs)) e)))
 
--- the bytes of marks: a mark's own but `..`'s point
+-- a mark that is no point is one of the marks of one byte
 one-byte : (m : ℕ) → isShape (shapes.mark m) ≡ true → is "." m ≡ false → among "()[],*+?@;" m ≡ true
 one-byte m e f = simp f at e
 
@@ -146,7 +146,7 @@ apart-follows (shapes.number w) (shapes.mark m) rest e f = mark-follows-number m
 apart-follows (shapes.number w) (shapes.word v) rest e f = absurd (false≢true f)
 apart-follows (shapes.number w) (shapes.number v) rest e f = absurd (false≢true f)
 
--- Nothing may follow any token.
+-- The text's end may follow any token.
 pub end-follows : (x : Shape) → mayFollow x [] ≡ true
 end-follows (shapes.word w) = refl
 end-follows (shapes.number w) = refl

@@ -1,7 +1,7 @@
 -- Tests of all the elements of a list, and of all the tokens of a text.
 use mathlib.Core.Bool.{Bool, true, _&&_}
 use mathlib.Core.List.{List, [], _∷_}
-use Rattle.tokens.specs.Token.{Token, Tokens, finish, bad, _▸_}
+use Rattle.tokens.specs.Token.{Tokens, finish, bad, _▸_}
 use Rattle.tokens.specs.Spelling.{isShape}
 
 -- every element of a list passes a test
