@@ -1,0 +1,6 @@
+pub mod Tests
+pub mod Fronts
+pub mod Joining
+pub mod Shapes
+pub mod Spelled
+pub mod Labels

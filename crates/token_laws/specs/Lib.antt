@@ -1,1 +1,3 @@
 pub mod Join
+pub mod Follow
+pub mod Shaped
