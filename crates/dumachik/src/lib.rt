@@ -4,7 +4,6 @@ ghost use lib.ListN.{length};
 ghost use Rattle.tokens.specs.Lex.{tokens};
 ghost use Rattle.tokens.specs.Next.{scanned};
 ghost use Rattle.dumachik.specs.Scan.{strayAt};
-
 use tokens::Scanned;
 
 // The offset of the first byte that starts no token, or the text's length where there is none.

@@ -23,7 +23,6 @@ pub data Call : Type 0 where
 
 -- What was read of a statement, by what may follow.
 pub data State : Type 0 where
-  between : State
   keyword : Name → State
   marked : Name → State
   letKeyword : State
@@ -37,9 +36,8 @@ pub data State : Type 0 where
   item : Call → ℕ → List Item → State
   itemRead : Call → ℕ → List Item → State
   argumentRead : Call → Arg → State
-  ended : State
 
--- What a token makes of that: more of the statement, the statement, or a refusal.
+-- What a token makes of that: more of the statement, the whole of it, or a refusal.
 pub data Step : Type 0 where
   more : State → Step
   made : Statement → Step
@@ -59,9 +57,11 @@ name o w = record { place = o; spelling = w }
 abbrev pub itemAs : Kind → ℕ → List ℕ → Item
 itemAs k o w = record { kind = k; name = name o w }
 
--- a statement's first word
-unfoldable pub opened : Name → Step
-opened n = cond (sameWord (n .spelling) (bytes "LET")) (more letKeyword) (more (keyword n))
+-- a statement's first token
+unfoldable pub opened : ℕ → Shape → Step
+opened o (word w) = cond (sameWord w (bytes "LET")) (more letKeyword) (more (keyword (name o w)))
+opened o (number w) = wrong o
+opened o (mark m) = wrong o
 
 -- the feature of a keyword and its arguments, and the LET of a name and its values
 unfoldable pub featureMade : Answer Feature → Step
@@ -100,9 +100,6 @@ abbrev pub afterArgument : ℕ → ℕ → ℕ → Call → Arg → Step
 afterArgument limit o m c a = cond (is "," m) (comma o c a) (cond (is ")" m) (closed limit c a) (wrong o))
 
 unfoldable pub turn : ℕ → State → ℕ → Shape → Step
-turn limit between o (word w) = opened (name o w)
-turn limit between o (number w) = wrong o
-turn limit between o (mark m) = cond (is ";" m) (more between) (wrong o)
 turn limit (keyword k) o (word w) = wrong o
 turn limit (keyword k) o (number w) = wrong o
 turn limit (keyword k) o (mark m) =
@@ -151,6 +148,3 @@ turn limit (itemRead c p items) o (mark m) =
 turn limit (argumentRead c a) o (word w) = wrong o
 turn limit (argumentRead c a) o (number w) = wrong o
 turn limit (argumentRead c a) o (mark m) = afterArgument limit o m c a
-turn limit ended o (word w) = wrong o
-turn limit ended o (number w) = wrong o
-turn limit ended o (mark m) = cond (is ";" m) (more between) (wrong o)
