@@ -2,11 +2,11 @@
 -- Assumes nothing.
 use mathlib.Core.Path.{_≡_, refl, _∙_, ap, sym, subst}
 use mathlib.Core.List.{List, [], _∷_, map}
-use mathlib.Core.Bool.{Bool, true, false, not, _&&_, _||_}
+use mathlib.Core.Bool.{Bool, true, false, not, _&&_, _||_, false≢true}
 use Prim.Native.Nat.{ℕ, zero, suc, _+_, _<_, _≤_}
 use native.Mathlib.Nat.{add-zero, zero-add, add-suc, suc-add, le-of-suc-le-suc, not-suc-le-zero}
 use native.Mathlib.Omega.{arith}
-use borrow.Author.Tests.{eqb-true, leb-true, leb-false, le-leb}
+use borrow.Author.Tests.{eqb-true, eqb-false, leb-true, leb-false, le-leb, not-true}
 use lib.Dec.{eqb, leb}
 use lib.ListN.{length, getD}
 use Rattle.text.specs.Bytes.{is}
@@ -122,3 +122,36 @@ starts-none b a m d s n l =
     (by-number (λ k. leb k 9) (λ k. true) refl refl refl refl refl refl refl refl refl refl (classOf b)) in
     let six : 6 ≤ classNumber b = least (classNumber b) s (omega arith) in
     (six, omega arith)
+
+and-left : (a b : Bool) → (a && b) ≡ true → a ≡ true
+and-left true b e = refl
+and-left false b e = e
+
+and-right : (a b : Bool) → (a && b) ≡ true → b ≡ true
+and-right true b e = e
+and-right false b e = absurd (false≢true e)
+
+-- a test that holds of each number below one, which antt computes, holds at each
+abbrev below : (ℕ → Bool) → ℕ → Bool
+below p zero = true
+below p (suc n) = p n && below p n
+
+at-below : (p : ℕ → Bool) (n : ℕ) → below p n ≡ true → (b : ℕ) → b < n → p b ≡ true
+at-below p zero e b h = absurd (not-suc-le-zero h)
+at-below p (suc n) e b h = go (eqb b n) refl (at-below p n (and-right (p n) (below p n) e) b)
+  where
+    go : (t : Bool) → eqb b n ≡ t → (b < n → p b ≡ true) → p b ≡ true
+    go true q later = ap p (eqb-true b n q) ∙ and-left (p n) (below p n) e
+    go false q later = later (let d : b ≡ n → ⊥ = eqb-false b n q in omega arith)
+
+-- marks stand at 40 and above, which is where the kinds of tokens that are no marks end
+pub mark-large : (b : ℕ) → classOf b ≡ mark → 40 ≤ b
+unfolding classOf
+mark-large b k = go (leb 40 b) refl
+  where
+    go : (t : Bool) → leb 40 b ≡ t → 40 ≤ b
+    go true e = leb-true 40 b e
+    go false e =
+        absurd
+        (eqb-false (classNumber b) 2
+        (not-true _ (at-below (λ n. not (eqb (classNumber n) 2)) 40 refl b (leb-false 40 b e))) (ap number k))

@@ -9,7 +9,7 @@ use native.Mathlib.Nat.{add-zero}
 use native.Mathlib.Numerals.{add-one}
 use native.Mathlib.Omega.{arith}
 use borrow.Author.Tests.{leb-true, leb-false}
-use lib.Dec.{leb}
+use lib.Dec.{leb, lit≤}
 use lib.ListN.{length, take, drop, length-drop}
 use lib.Seq.{drop-cons, length-take-le}
 use Rattle.text.specs.Bytes.{span}
@@ -34,17 +34,18 @@ use Rattle.tokens.specs.Class.{
 use Rattle.tokens.specs.Token.{Shape, Token, Tokens, finish, bad, _▸_, range, width, past}
 use Rattle.tokens.specs.Token as shapes
 use Rattle.tokens.specs.Lex.{Front, skip, taken, wrong, inWord, numberRest, dots, frontOf, follow}
-use Rattle.tokens.specs.Next.{cursor, first, lexedAs}
-use Rattle.tokens.proofs.Classes.{mark-no-point}
+use Rattle.tokens.specs.declared.Token as kinds
+use Rattle.tokens.specs.Next.{cursor, first, lexedAs, byKind, tokenAt}
+use Rattle.tokens.proofs.Classes.{mark-no-point, mark-large}
 use Rattle.tokens.proofs.Runs.{span-most}
 use Rattle.tokens.proofs.Numbers.{number-most}
 use Rattle.tokens.proofs.Steps.{from, byte, front, after, token, at-end, step}
 
--- a word and a number have the bytes that they are written with
+-- a word and a number have the bytes that they are written with, and a mark is one of the large bytes
 abbrev pub SpelledBy : Shape → List ℕ → Type 0
 SpelledBy (shapes.word w) l = w ≡ l
 SpelledBy (shapes.number w) l = w ≡ l
-SpelledBy (shapes.mark m) l = Unit {0}
+SpelledBy (shapes.mark m) l = 40 ≤ m
 
 -- the bytes from one offset up to another
 abbrev pub part : List ℕ → ℕ → ℕ → List ℕ
@@ -62,14 +63,14 @@ dots-fit b [] = tt
 dots-fit b (d ∷ ds) = go (isA dot d)
   where
     go : (t : Bool) → Fits b (d ∷ ds) (cond t (taken range 1) wrong)
-    go true = (refl, omega arith, tt)
+    go true = (refl, omega arith, lit≤ tt)
     go false = tt
 
 front-fits : (k : Class) (b : ℕ) (bs : List ℕ) → classOf b ≡ k → Fits b bs (frontOf k b bs)
 unfolding frontOf
-front-fits newline b bs e = (refl, omega arith, tt)
-front-fits semicolon b bs e = (refl, omega arith, tt)
-front-fits mark b bs e = (simp (mark-no-point b e), omega arith, tt)
+front-fits newline b bs e = (refl, omega arith, lit≤ tt)
+front-fits semicolon b bs e = (refl, omega arith, lit≤ tt)
+front-fits mark b bs e = (simp (mark-no-point b e), omega arith, mark-large b e)
 front-fits dot b bs e = dots-fit b bs
 front-fits blank b bs e = tt
 front-fits hash b bs e = tt
@@ -155,7 +156,7 @@ see s o = see-from (length s) s o (omega arith)
 abbrev pub Tells : List ℕ → ℕ → Lexed → Type 0
 Tells s o (Word a c) = Reads s o (token a (shapes.word (part s a (c .at)))) (c .at)
 Tells s o (Number a c) = Reads s o (token a (shapes.number (part s a (c .at)))) (c .at)
-Tells s o (Mark m a c) = Reads s o (token a (shapes.mark m)) (c .at)
+Tells s o (Mark m a c) = Reads s o (token a (shapes.mark m)) (c .at) × (40 ≤ m)
 Tells s o (Bad e) = (from s o ≡ bad e) × (o ≤ e) × (e < length s)
 Tells s o End = from s o ≡ finish
 
@@ -164,7 +165,7 @@ as-written : (s : List ℕ) (o a : ℕ) (x : Shape) → Reads s o (token a x) (a
 unfolding lexedAs
 as-written s o a (shapes.word w) r e = subst (λ (l : List ℕ). Reads s o (token a (shapes.word l)) (a + length w)) e r
 as-written s o a (shapes.number w) r e = subst (λ (l : List ℕ). Reads s o (token a (shapes.number l)) (a + length w)) e r
-as-written s o a (shapes.mark m) r e = r
+as-written s o a (shapes.mark m) r e = (r, e)
 
 tells : (s : List ℕ) (o : ℕ) → Seen s o → Tells s o (first (from s o))
 unfolding first
@@ -175,3 +176,52 @@ tells s o (seen t r w) = subst (Tells s o) (sym (ap first (r .tokens))) (as-writ
 -- the law for readers of tokens: the answer at an offset tells what it says
 pub told : (s : List ℕ) (o : ℕ) (l : Lexed) → l ≡ first (from s o) → Tells s o l
 told s o l e = subst (Tells s o) (sym e) (tells s o (see s o))
+
+-- What a token's kind tells.
+pub data Known (s : List ℕ) (o : ℕ) (t : kinds.Token) : Type 0 where
+  aWord : t .kind ≡ 0 → Reads s o (token (t .start) (shapes.word (part s (t .start) (t .next .at)))) (t .next .at) → Known s o t
+  aNumber : t .kind ≡ 1 → Reads s o (token (t .start) (shapes.number (part s (t .start) (t .next .at)))) (t .next .at) → Known s o t
+  aMark : 40 ≤ t .kind → Reads s o (token (t .start) (shapes.mark (t .kind))) (t .next .at) → Known s o t
+  aStray : t .kind ≡ 2 → from s o ≡ bad (t .start) → Known s o t
+  theEnd : t .kind ≡ 3 → from s o ≡ finish → t .start ≡ length s → Known s o t
+
+known-as : (s : List ℕ) (o : ℕ) (l : Lexed) → Tells s o l → Known s o (byKind (length s) l)
+unfolding byKind
+known-as s o (Word a c) r = aWord refl r
+known-as s o (Number a c) r = aNumber refl r
+known-as s o (Mark m a c) r = aMark (r .1) (r .0)
+known-as s o (Bad e) r = aStray refl (r .0)
+known-as s o End r = theEnd refl r refl
+
+-- the law for readers of tokens by their kind
+pub known : (s : List ℕ) (o : ℕ) (t : kinds.Token) → t ≡ tokenAt s o → Known s o t
+known s o t e = subst (Known s o) (sym e) (known-as s o (first (from s o)) (told s o (first (from s o)) refl))
+
+module _ {s : List ℕ} {o : ℕ} {t : kinds.Token} where
+  pub known-word : Known s o t → t .kind ≡ 0 → Reads s o (token (t .start) (shapes.word (part s (t .start) (t .next .at)))) (t .next .at)
+  known-word (aWord e r) k = r
+  known-word (aNumber e r) k = absurd (omega arith)
+  known-word (aMark e r) k = absurd (omega arith)
+  known-word (aStray e r) k = absurd (omega arith)
+  known-word (theEnd e r l) k = absurd (omega arith)
+
+  pub known-number : Known s o t → t .kind ≡ 1 → Reads s o (token (t .start) (shapes.number (part s (t .start) (t .next .at)))) (t .next .at)
+  known-number (aWord e r) k = absurd (omega arith)
+  known-number (aNumber e r) k = r
+  known-number (aMark e r) k = absurd (omega arith)
+  known-number (aStray e r) k = absurd (omega arith)
+  known-number (theEnd e r l) k = absurd (omega arith)
+
+  pub known-mark : Known s o t → (m : ℕ) → t .kind ≡ m → 40 ≤ m → Reads s o (token (t .start) (shapes.mark m)) (t .next .at)
+  known-mark (aWord e r) m k h = absurd (omega arith)
+  known-mark (aNumber e r) m k h = absurd (omega arith)
+  known-mark (aMark e r) m k h = subst (λ (n : ℕ). Reads s o (token (t .start) (shapes.mark n)) (t .next .at)) k r
+  known-mark (aStray e r) m k h = absurd (omega arith)
+  known-mark (theEnd e r l) m k h = absurd (omega arith)
+
+  pub known-end : Known s o t → t .kind ≡ 3 → from s o ≡ finish
+  known-end (aWord e r) k = absurd (omega arith)
+  known-end (aNumber e r) k = absurd (omega arith)
+  known-end (aMark e r) k = absurd (omega arith)
+  known-end (aStray e r) k = absurd (omega arith)
+  known-end (theEnd e r l) k = r

@@ -6,6 +6,7 @@ use mathlib.Core.Path.{_≡_}
 use lib.ListN.{length, drop, getD}
 use Rattle.tokens.specs.Class.{classNumber, classBetween}
 use Rattle.tokens.specs.Lex.{tokensAt}
+use Rattle.tokens.specs.declared
 use Rattle.tokens.specs.declared.Cursor.{Cursor}
 use Rattle.tokens.specs.declared.Lexed.{Lexed}
 use Rattle.tokens.specs.declared.Lexed.the-variants.{Word, Number, Mark, Bad, End}
@@ -27,6 +28,17 @@ unfoldable pub first : Tokens → Lexed
 first finish = End
 first (bad o) = Bad o
 first (t ▸ ts) = lexedAs (t .place) (t .shape)
+
+-- the same, by the number of its kind
+unfoldable pub byKind : ℕ → Lexed → declared.Token.Token
+byKind size (Word o c) = record { kind = 0; start = o; next = c }
+byKind size (Number o c) = record { kind = 1; start = o; next = c }
+byKind size (Mark m o c) = record { kind = m; start = o; next = c }
+byKind size (Bad o) = record { kind = 2; start = o; next = cursor o }
+byKind size End = record { kind = 3; start = size; next = cursor size }
+
+abbrev pub tokenAt : List ℕ → ℕ → declared.Token.Token
+tokenAt s o = byKind (length s) (first (tokensAt o (drop o s)))
 
 -- whether every byte of the text is in order, or which is the first that starts no token
 unfoldable pub scanned : Tokens → Scanned

@@ -5,7 +5,7 @@ ghost use lib.ListN.{length, drop, getD};
 ghost use Rattle.text.specs.Bytes.{span};
 ghost use Rattle.tokens.specs.Class.{classTable, classBetween, classNumber};
 ghost use Rattle.tokens.specs.Lex.{tokensAt, tokens, numberRest};
-ghost use Rattle.tokens.specs.Next.{cursor, first, scanned, Passed, PointAt, Skippable, Skipped};
+ghost use Rattle.tokens.specs.Next.{cursor, first, tokenAt, scanned, Passed, PointAt, Skippable, Skipped};
 
 // The class of each byte, by its number: 0 newline, 1 semicolon, 2 mark, 3 dot, 4 blank, 5 hash, 6 other, 7 hyphen,
 // 8 digit, 9 letter; sixteen bytes a row. A call that reads a text makes this table a local once and lends it to every function below.
@@ -52,6 +52,14 @@ pub enum Lexed {
         start: usize,
     },
     End,
+}
+
+// A token by the number of its kind: 0 a word, 1 a number, 2 a byte that starts none, 3 the text's end, which stands at its length; a mark
+// is of its own byte's kind. Readers that ask for one mark or another match on the kind.
+pub struct Token {
+    pub kind: u8,
+    pub start: usize,
+    pub next: Cursor,
 }
 
 // What a scan of the whole text finds: no byte amiss, or the offset of the first that starts no token.
@@ -200,6 +208,42 @@ impl Cursor {
                 }
             }
             _ => Lexed::Bad { start },
+        }
+    }
+}
+
+impl Cursor {
+    // The same token, by its kind.
+    pub fn token(self, text: &[u8], classes: &[u8; 256]) -> Token
+        requires { ⌜ now classes ≡ classTable ⌝ }
+        ensures { λ r. ⌜ r ≡ tokenAt (now (text .entry)) (self .at) ⌝ }
+    {
+        match self.next(text, classes) {
+            Lexed::Word { start, next } => Token {
+                kind: 0,
+                start,
+                next,
+            },
+            Lexed::Number { start, next } => Token {
+                kind: 1,
+                start,
+                next,
+            },
+            Lexed::Mark { mark, start, next } => Token {
+                kind: mark,
+                start,
+                next,
+            },
+            Lexed::Bad { start } => Token {
+                kind: 2,
+                start,
+                next: Cursor { at: start },
+            },
+            Lexed::End => Token {
+                kind: 3,
+                start: text.len(),
+                next: Cursor { at: text.len() },
+            },
         }
     }
 }

@@ -84,7 +84,7 @@ enum-known-next-3 c = search needs
 loop-less-3 : tie.Need-loop-less-3 Inv-loop μ-loop
 loop-less-3 c =
     let x = c .before .next4 .given in
-    let r = read (c .before .before .before) (Mark (x .0 .0) (x .0 .1 .0) (x .0 .1 .1 .0)) (x .1) in
+    let r = read (c .before .before .before) (Mark (x .0 .0) (x .0 .1 .0) (x .0 .1 .1 .0)) (x .1) .0 in
     omega (arith, r .ahead, r .wide, r .within)
 
 -- src/lib.rt:183:5
@@ -92,7 +92,7 @@ loop-again-3 : tie.Need-loop-again-3 Inv-loop μ-loop
 unfolding scanned
 loop-again-3 c =
     let x = c .before .next4 .given in
-    let r = read (c .before .before .before) (Mark (x .0 .0) (x .0 .1 .0) (x .0 .1 .1 .0)) (x .1) in
+    let r = read (c .before .before .before) (Mark (x .0 .0) (x .0 .1 .0) (x .0 .1 .1 .0)) (x .1) .0 in
     sym (ap scanned (r .tokens)) ∙ c .before .before .before .before .loop .inv
 
 -- src/lib.rt:189:26
