@@ -1,4 +1,12 @@
 // Standard output by way of a buffer: each function takes how many of its bytes are waiting and answers how many are.
+ghost use Rattle.io.specs.Counts.{Counts};
+
+// A number of bytes, cut to those that there are.
+pub fn within(n: usize, bytes: &[u8]) -> usize
+    ensures { λ r. ⌜ Counts r (now (bytes .entry)) ⌝ }
+{
+    if n < bytes.len() { n } else { bytes.len() }
+}
 
 // One byte more. A full buffer is written out first.
 pub fn put(out: &mut [u8], len: usize, byte: u8) -> usize {
@@ -38,13 +46,18 @@ fn hex_digit(n: u8) -> u8 {
     if d < 10 { b'0' + d } else { b'a' + (d - 10) }
 }
 
-pub fn put_hex(out: &mut [u8], len: usize, bytes: &[u8]) -> usize {
+fn put_hex_byte(out: &mut [u8], len: usize, byte: u8) -> usize {
+    let n = put(out, len, hex_digit(byte / 16));
+    put(out, n, hex_digit(byte))
+}
+
+// The bytes from one offset to another, two digits each.
+pub fn put_hex(out: &mut [u8], len: usize, bytes: &[u8], from: usize, to: usize) -> usize {
+    let end = within(to, bytes);
     let mut n = len;
-    let mut i = 0;
-    while i < bytes.len() {
-        let b = bytes[i];
-        n = put(out, n, hex_digit(b / 16));
-        n = put(out, n, hex_digit(b % 16));
+    let mut i = from;
+    while i < end {
+        n = put_hex_byte(out, n, bytes[i]);
         i += 1;
     }
     n
@@ -52,7 +65,6 @@ pub fn put_hex(out: &mut [u8], len: usize, bytes: &[u8]) -> usize {
 
 // The waiting bytes.
 pub fn flush(out: &[u8], len: usize) {
-    if len <= out.len() {
-        io::write_all(1, &out[..len]);
-    }
+    let n = within(len, out);
+    io::write_all(1, &out[..n]);
 }
