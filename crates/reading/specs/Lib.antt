@@ -4,3 +4,4 @@ pub mod Argument
 pub mod Feature
 pub mod Syntax
 pub mod Read
+pub mod One

@@ -82,6 +82,7 @@ front-fits letter b bs e = (ap suc (length-take-le (span inWord bs) bs (span-mos
 -- A token at an offset or after it: the tokens are it and those from a later offset on, which lies in the text.
 pub record Reads (s : List ℕ) (o : ℕ) (t : Token) (n : ℕ) : Type 0 where
   pub tokens : from s o ≡ t ▸ from s n
+  pub there : from s (t .place) ≡ t ▸ from s n
   pub ahead : o ≤ t .place
   pub wide : t .place < n
   pub within : n ≤ length s
@@ -89,15 +90,15 @@ pub record Reads (s : List ℕ) (o : ℕ) (t : Token) (n : ℕ) : Type 0 where
 -- what there can be at an offset or after it
 data Seen (s : List ℕ) (o : ℕ) : Type 0 where
   finished : from s o ≡ finish → Seen s o
-  stray : (e : ℕ) → from s o ≡ bad e → o ≤ e → e < length s → Seen s o
+  stray : (e : ℕ) → from s o ≡ bad e → from s e ≡ bad e → o ≤ e → e < length s → Seen s o
   seen : (t : Token) → Reads s o t (past t) → SpelledBy (t .shape) (part s (t .place) (past t)) → Seen s o
 
 -- what is there after a start is there at it, where the tokens are the same
 earlier : (s : List ℕ) (o p : ℕ) → from s o ≡ from s p → o ≤ p → Seen s p → Seen s o
 earlier s o p e h (finished f) = finished (e ∙ f)
-earlier s o p e h (stray x f a b) = stray x (e ∙ f) (omega arith) b
+earlier s o p e h (stray x f g a b) = stray x (e ∙ f) g (omega arith) b
 earlier s o p e h (seen t r w) =
-    seen t (record { tokens = e ∙ r .tokens; ahead = omega (arith, r .ahead); wide = r .wide; within = r .within }) w
+    seen t (record { tokens = e ∙ r .tokens; there = r .there; ahead = omega (arith, r .ahead); wide = r .wide; within = r .within }) w
 
 -- a token that stands at the offset itself
 here :
@@ -111,6 +112,7 @@ here s o x k h e f =
     seen (token o x)
     (record {
       tokens = e ∙ ap (λ (n : ℕ). token o x ▸ from s n) p;
+      there = e ∙ ap (λ (n : ℕ). token o x ▸ from s n) p;
       ahead = omega arith;
       wide = omega (arith, f .0);
       within = omega (arith, f .0, f .1, length-drop (o + 1) s);
@@ -137,7 +139,7 @@ see-front :
 unfolding follow
 see-front s o h later (skip k) e w = earlier s o (o + 1 + k) e (omega arith) (later (o + 1 + k) (omega arith))
 see-front s o h later (taken x k) e w = here s o x k h e w
-see-front s o h later wrong e w = stray o e (omega arith) h
+see-front s o h later wrong e w = stray o e e (omega arith) h
 
 see-from : (n : ℕ) (s : List ℕ) (o : ℕ) → length s ≤ o + n → Seen s o
 see-from zero s o h = finished (at-end s o (omega arith))
@@ -157,7 +159,7 @@ abbrev pub Tells : List ℕ → ℕ → Lexed → Type 0
 Tells s o (Word a c) = Reads s o (token a (shapes.word (part s a (c .at)))) (c .at)
 Tells s o (Number a c) = Reads s o (token a (shapes.number (part s a (c .at)))) (c .at)
 Tells s o (Mark m a c) = Reads s o (token a (shapes.mark m)) (c .at) × (40 ≤ m)
-Tells s o (Bad e) = (from s o ≡ bad e) × (o ≤ e) × (e < length s)
+Tells s o (Bad e) = (from s o ≡ bad e) × (from s e ≡ bad e) × (o ≤ e) × (e < length s)
 Tells s o End = from s o ≡ finish
 
 -- a token's answer, its bytes being those of the text
@@ -170,7 +172,7 @@ as-written s o a (shapes.mark m) r e = (r, e)
 tells : (s : List ℕ) (o : ℕ) → Seen s o → Tells s o (first (from s o))
 unfolding first
 tells s o (finished f) = subst (Tells s o) (sym (ap first f)) f
-tells s o (stray e f i j) = subst (Tells s o) (sym (ap first f)) (f, i, j)
+tells s o (stray e f g i j) = subst (Tells s o) (sym (ap first f)) (f, g, i, j)
 tells s o (seen t r w) = subst (Tells s o) (sym (ap first (r .tokens))) (as-written s o (t .place) (t .shape) r w)
 
 -- the law for readers of tokens: the answer at an offset tells what it says
@@ -182,16 +184,16 @@ pub data Known (s : List ℕ) (o : ℕ) (t : kinds.Token) : Type 0 where
   aWord : t .kind ≡ 0 → Reads s o (token (t .start) (shapes.word (part s (t .start) (t .next .at)))) (t .next .at) → Known s o t
   aNumber : t .kind ≡ 1 → Reads s o (token (t .start) (shapes.number (part s (t .start) (t .next .at)))) (t .next .at) → Known s o t
   aMark : 40 ≤ t .kind → Reads s o (token (t .start) (shapes.mark (t .kind))) (t .next .at) → Known s o t
-  aStray : t .kind ≡ 2 → from s o ≡ bad (t .start) → Known s o t
-  theEnd : t .kind ≡ 3 → from s o ≡ finish → t .start ≡ length s → Known s o t
+  aStray : t .kind ≡ 2 → from s o ≡ bad (t .start) → from s (t .next .at) ≡ bad (t .start) → Known s o t
+  theEnd : t .kind ≡ 3 → from s o ≡ finish → t .start ≡ length s → t .next .at ≡ length s → Known s o t
 
 known-as : (s : List ℕ) (o : ℕ) (l : Lexed) → Tells s o l → Known s o (byKind (length s) l)
 unfolding byKind
 known-as s o (Word a c) r = aWord refl r
 known-as s o (Number a c) r = aNumber refl r
 known-as s o (Mark m a c) r = aMark (r .1) (r .0)
-known-as s o (Bad e) r = aStray refl (r .0)
-known-as s o End r = theEnd refl r refl
+known-as s o (Bad e) r = aStray refl (r .0) (r .1)
+known-as s o End r = theEnd refl r refl refl
 
 -- the law for readers of tokens by their kind
 pub known : (s : List ℕ) (o : ℕ) (t : kinds.Token) → t ≡ tokenAt s o → Known s o t
@@ -202,26 +204,26 @@ module _ {s : List ℕ} {o : ℕ} {t : kinds.Token} where
   known-word (aWord e r) k = r
   known-word (aNumber e r) k = absurd (omega arith)
   known-word (aMark e r) k = absurd (omega arith)
-  known-word (aStray e r) k = absurd (omega arith)
-  known-word (theEnd e r l) k = absurd (omega arith)
+  known-word (aStray e r q) k = absurd (omega arith)
+  known-word (theEnd e r l q) k = absurd (omega arith)
 
   pub known-number : Known s o t → t .kind ≡ 1 → Reads s o (token (t .start) (shapes.number (part s (t .start) (t .next .at)))) (t .next .at)
   known-number (aWord e r) k = absurd (omega arith)
   known-number (aNumber e r) k = r
   known-number (aMark e r) k = absurd (omega arith)
-  known-number (aStray e r) k = absurd (omega arith)
-  known-number (theEnd e r l) k = absurd (omega arith)
+  known-number (aStray e r q) k = absurd (omega arith)
+  known-number (theEnd e r l q) k = absurd (omega arith)
 
   pub known-mark : Known s o t → (m : ℕ) → t .kind ≡ m → 40 ≤ m → Reads s o (token (t .start) (shapes.mark m)) (t .next .at)
   known-mark (aWord e r) m k h = absurd (omega arith)
   known-mark (aNumber e r) m k h = absurd (omega arith)
   known-mark (aMark e r) m k h = subst (λ (n : ℕ). Reads s o (token (t .start) (shapes.mark n)) (t .next .at)) k r
-  known-mark (aStray e r) m k h = absurd (omega arith)
-  known-mark (theEnd e r l) m k h = absurd (omega arith)
+  known-mark (aStray e r q) m k h = absurd (omega arith)
+  known-mark (theEnd e r l q) m k h = absurd (omega arith)
 
   pub known-end : Known s o t → t .kind ≡ 3 → from s o ≡ finish
   known-end (aWord e r) k = absurd (omega arith)
   known-end (aNumber e r) k = absurd (omega arith)
   known-end (aMark e r) k = absurd (omega arith)
-  known-end (aStray e r) k = absurd (omega arith)
-  known-end (theEnd e r l) k = r
+  known-end (aStray e r q) k = absurd (omega arith)
+  known-end (theEnd e r l q) k = r

@@ -1,0 +1,60 @@
+-- The entries of a list that stays in the text: every other token from its start on, as many as there are. Between two stands a `,`.
+use Prim.Native.Nat.{ℕ, zero, suc}
+use mathlib.Core.Bool.{Bool, true, false, _&&_}
+use mathlib.Core.List.{List, [], _∷_}
+use lib.ListN.{take, drop}
+use Rattle.tokens.specs.Token.{Shape, word, number, mark, Token, Tokens, finish, bad, _▸_}
+use Rattle.tokens.specs.Lex.{tokensAt}
+use Rattle.reading.specs.Statement.{Name, Kind, aWord, aNumber, Item}
+use Rattle.reading.specs.Syntax.{itemAs}
+use Rattle.forms.specs.declared.Name as form
+use Rattle.forms.specs.declared.Items as list
+
+-- the tokens of a text from an offset on
+abbrev pub tokensFrom : List ℕ → ℕ → Tokens
+tokensFrom s o = tokensAt o (drop o s)
+
+-- a name of a text
+abbrev pub nameIn : List ℕ → form.Name → Name
+nameIn s n = record { place = n .offset; spelling = take (n .length) (drop (n .offset) s) }
+
+-- a token as an entry; a mark is none
+abbrev pub entry : ℕ → Shape → Item
+entry o (word w) = itemAs aWord o w
+entry o (number w) = itemAs aNumber o w
+entry o (mark m) = itemAs aWord o []
+
+-- the tokens after the first
+abbrev pub rest : Tokens → Tokens
+rest finish = finish
+rest (bad o) = bad o
+rest (t ▸ ts) = ts
+
+-- the first so many entries
+unfoldable pub entries : ℕ → Tokens → List Item
+entries zero ts = []
+entries (suc n) finish = []
+entries (suc n) (bad o) = []
+entries (suc n) (t ▸ ts) = entry (t .place) (t .shape) ∷ entries n (rest ts)
+
+-- what comes after so many entries and the token behind each
+unfoldable pub afterEntries : ℕ → Tokens → Tokens
+afterEntries zero ts = ts
+afterEntries (suc n) ts = afterEntries n (rest (rest ts))
+
+-- a list's entries in a text
+abbrev pub itemsIn : List ℕ → list.Items → List Item
+itemsIn s is = entries (is .count) (tokensFrom s (is .first))
+
+-- the first token is a word or a number
+abbrev pub isEntry : Shape → Bool
+isEntry (word w) = true
+isEntry (number w) = true
+isEntry (mark m) = false
+
+-- there are so many entries, each a word or a number
+unfoldable pub listed : ℕ → Tokens → Bool
+listed zero ts = true
+listed (suc n) finish = false
+listed (suc n) (bad o) = false
+listed (suc n) (t ▸ ts) = isEntry (t .shape) && listed n (rest ts)

@@ -1,0 +1,3 @@
+pub mod Items
+pub mod Forms
+pub mod Fits

@@ -1,0 +1,131 @@
+// What is read of a text: arguments, and statements made of them. A list stays in the text: a form says where it starts and how many
+// entries it has.
+
+// A name or a symbol: the offset of its first byte, and how many it has.
+pub struct Name {
+    pub offset: usize,
+    pub length: usize,
+}
+
+// The entries of an array, or one word or number alone: the offset from which the first is read, and how many there are.
+pub struct Items {
+    pub first: usize,
+    pub count: usize,
+}
+
+// An argument before its feature says what it means, with the offset of its first byte.
+pub enum Arg {
+    Star(usize),
+    Plus(usize),
+    Symbol { at: usize, name: Name },
+    Word(Name),
+    Number(Name),
+    Range { at: usize, low: u32, high: u32 },
+    Array { at: usize, items: Items },
+}
+
+// How many arguments there are, and the first four: no feature takes more.
+pub struct Args {
+    pub count: usize,
+    pub first: Arg,
+    pub second: Arg,
+    pub third: Arg,
+    pub fourth: Arg,
+}
+
+// Why a text is refused: the fault's number and its place.
+pub struct Refusal {
+    pub number: u8,
+    pub place: usize,
+}
+
+pub enum Modes {
+    Wildcard,
+    List(Items),
+}
+
+pub enum Counts {
+    Single(u32),
+    Range(u32, u32),
+    List(Items),
+}
+
+pub enum TransitCounts {
+    N,
+    Counts(Counts),
+}
+
+pub enum Operand {
+    Wildcard,
+    Symbol(Name),
+    Names(Items),
+}
+
+pub enum CovariateOp {
+    Multiply,
+    Add,
+}
+
+// A second argument of modes, which may be left out.
+pub enum SomeModes {
+    Absent,
+    Given(Modes),
+}
+
+// A reference value, which may be left out.
+pub enum SomeName {
+    Absent,
+    Given(Name),
+}
+
+pub enum Feature {
+    Absorption(Modes),
+    Elimination(Modes),
+    Peripherals {
+        counts: Counts,
+        kind: SomeModes,
+    },
+    Transits {
+        counts: TransitCounts,
+        depot: SomeModes,
+    },
+    Lagtime(Modes),
+    Covariate {
+        optional: bool,
+        parameters: Operand,
+        covariates: Operand,
+        effects: Modes,
+        op: CovariateOp,
+    },
+    Allometry {
+        covariate: Name,
+        reference: SomeName,
+    },
+    DirectEffect(Modes),
+    EffectComp(Modes),
+    IndirectEffect {
+        mode: Modes,
+        production: Modes,
+    },
+    Metabolite(Modes),
+    Iiv {
+        optional: bool,
+        parameters: Operand,
+        effects: Modes,
+    },
+    Iov {
+        optional: bool,
+        parameters: Operand,
+        effects: Modes,
+    },
+    Covariance {
+        optional: bool,
+        level: Modes,
+        parameters: Operand,
+    },
+}
+
+pub enum Statement {
+    Let { name: Name, values: Items },
+    Feature(Feature),
+}
