@@ -70,7 +70,7 @@ returns-3 : tie.Need-returns-3
 returns-3 c =
     let d = c .before .before .before .before .before in
     let x = d .mark .given in
-    let r = read (d .before .before) (Mark (x .0 .0) (x .0 .1 .0) (x .0 .1 .1 .0)) (x .1) in
+    let r = read (d .before .before) (Mark (x .0 .0) (x .0 .1 .0) (x .0 .1 .1 .0)) (x .1) .0 in
     omega (arith, r .ahead, r .wide)
 
 returns-4 : tie.Need-returns-4
