@@ -1,6 +1,12 @@
 // What is read of a text: arguments, and statements made of them. A list stays in the text: a form says where it starts and how many
 // entries it has.
 
+ghost use mathlib.Core.Path.{_≡_};
+ghost use Rattle.counts.specs.Count.{countOf};
+ghost use Rattle.forms.specs.Items.{nameIn};
+ghost use Rattle.forms.specs.Fits.{InText};
+use counts::Counted;
+
 // A name or a symbol: the offset of its first byte, and how many it has.
 pub struct Name {
     pub offset: usize,
@@ -128,4 +134,14 @@ pub enum Feature {
 pub enum Statement {
     Let { name: Name, values: Items },
     Feature(Feature),
+}
+
+// A number of the text as a count.
+pub fn count_at(text: &[u8], name: Name, limit: u32) -> Counted
+    requires { ⌜ InText (now text) name ⌝ }
+    ensures { λ r. ⌜ r ≡ countOf limit (nameIn (now (text .entry)) name .spelling) ⌝ }
+{
+    let start = name.offset;
+    let end = start + name.length;
+    counts::count_of(&text[start..end], limit)
 }
