@@ -1,3 +1,4 @@
 pub mod Bind
 pub mod Arguments
 pub mod Features
+pub mod Steps
