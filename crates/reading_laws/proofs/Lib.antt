@@ -2,3 +2,4 @@ pub mod Bind
 pub mod Arguments
 pub mod Features
 pub mod Steps
+pub mod Raising
