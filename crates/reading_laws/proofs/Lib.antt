@@ -3,3 +3,4 @@ pub mod Arguments
 pub mod Features
 pub mod Steps
 pub mod Raising
+pub mod Accepting
