@@ -18,7 +18,7 @@ use Rattle.reading.specs.Read.{isSeparator, Where, between, ended, inside, prep
 use Rattle.reading_laws.specs.Reads.{Reads, over, overEnded, passed, passedEnded, begun, carried, completed}
 
 -- an answer is no refusal, and has one value
-not-refused : {A : Type 0} {n p : ℕ} {a : A} → refused n p ≡ accepted a → ⊥
+pub not-refused : {A : Type 0} {n p : ℕ} {a : A} → refused n p ≡ accepted a → ⊥
 not-refused e = let z : _≡_ {A = ℕ} 0 1 = cc in omega arith
 
 value-of : {A : Type 0} {a b : A} → accepted a ≡ accepted b → a ≡ b

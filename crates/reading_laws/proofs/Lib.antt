@@ -4,3 +4,6 @@ pub mod Features
 pub mod Steps
 pub mod Raising
 pub mod Accepting
+pub mod Scanning
+pub mod Appending
+pub mod Joining
