@@ -1,15 +1,14 @@
 -- An accepted reading, token by token, and back.
 -- Assumes nothing.
-use Prim.Native.Nat.{ℕ, suc, _+_, _<_, _≤_}
+use Prim.Native.Nat.{ℕ, suc}
 use native.Mathlib.Omega.{arith}
-use mathlib.Core.Path.{_≡_, refl, _∙_, ap, sym, subst}
+use mathlib.Core.Path.{_≡_, refl, subst}
 use mathlib.Core.Bool.{Bool, true, false, cond}
-use mathlib.Core.List.{List, [], _∷_}
+use mathlib.Core.List.{List, _∷_}
 use borrow.Author.Tests.{leb-false, lt-leb}
 use lib.Dec.{leb}
-use lib.ListN.{length}
 use Rattle.text.specs.Bytes.{bytes}
-use Rattle.tokens.specs.Token.{Shape, word, number, mark, Token, Tokens, finish, bad, _▸_}
+use Rattle.tokens.specs.Token.{Shape, word, number, mark, Tokens, finish, bad, _▸_}
 use Rattle.labels.specs.Word.{sameWord}
 use Rattle.reading.specs.Statement.{Statement}
 use Rattle.reading.specs.Answer.{Answer, accepted, refused, tooMany, unexpected}

@@ -3,16 +3,16 @@
 use Prim.Native.Nat.{ℕ, suc, _+_, _<_, _≤_}
 use native.Mathlib.Omega.{arith}
 use native.Mathlib.Nat.{add-zero, suc-add, add-suc}
-use mathlib.Core.Path.{_≡_, refl, _∙_, ap, sym}
-use mathlib.Core.List.{List, [], _∷_}
+use mathlib.Core.Path.{_≡_}
+use mathlib.Core.List.{List}
 use borrow.Author.Tests.{lt-leb}
 use lib.ListN.{length}
-use Rattle.tokens.specs.Token.{Tokens, finish, bad, _▸_, separator}
+use Rattle.tokens.specs.Token.{Tokens, _▸_, separator}
 use Rattle.token_laws.specs.Join.{append}
 use Rattle.reading.specs.Statement.{Statement}
-use Rattle.reading.specs.Answer.{Answer, accepted}
+use Rattle.reading.specs.Answer.{accepted}
 use Rattle.reading.specs.Syntax.{State}
-use Rattle.reading.specs.Read.{Where, between, ended, inside, prepend, readFrom}
+use Rattle.reading.specs.Read.{Where, between, inside, readFrom}
 use Rattle.reading_laws.specs.Reads.{Reads, over, overEnded, passed, passedEnded, begun, carried, completed, prependAll}
 use Rattle.reading_laws.proofs.Accepting.{accepted-reads, reads-accepted}
 
@@ -45,6 +45,7 @@ inside-more :
 inside-more (carried e r) = inside-more r
 inside-more (completed e r) = omega arith
 
+-- what is read after some statements is read after others, where the whole keeps within 256
 pub reads-after :
     {limit n : ℕ} {w : Where} {ts : Tokens} {ss : List Statement} (m : ℕ) → Reads limit n w ts ss → m + length ss ≤ 256 → Reads limit m w ts ss
 reads-after m over h = over

@@ -1,10 +1,9 @@
 -- What arguments are taken for, raised.
 -- Assumes nothing.
 use Prim.Native.Nat.{ℕ, _+_}
-use mathlib.Core.Path.{_≡_, refl, _∙_, ap}
-use mathlib.Core.Bool.{Bool, true, false, cond}
+use mathlib.Core.Path.{_≡_, refl, ap}
 use mathlib.Core.List.{List, [], _∷_, map}
-use mathlib.Core.Option.{Option, some, none, Option·map}
+use mathlib.Core.Option.{Option, some, none}
 use lib.Dec.{ltb}
 use Rattle.counts.specs.declared.Counted.{Counted}
 use Rattle.counts.specs.declared.Counted.the-variants.{Count, Refused}
@@ -12,7 +11,7 @@ use Rattle.counts.specs.Count.{countOf}
 use Rattle.labels.specs.declared.Family.{Family}
 use Rattle.labels.specs.Word.{find}
 use Rattle.labels.specs.Label.{labelsOf}
-use Rattle.reading.specs.Statement.{Name, Kind, aWord, aNumber, Item, modes, count, counts}
+use Rattle.reading.specs.Statement.{Name, Kind, aWord, aNumber, Item}
 use Rattle.reading.specs.Argument.{
   Arg,
   star,
@@ -30,7 +29,6 @@ use Rattle.reading.specs.Argument.{
   modeAt,
   modeOf,
   modeList,
-  firsts,
   loneMode,
   modesOf,
   countItem,
@@ -38,8 +36,8 @@ use Rattle.reading.specs.Argument.{
   loneCount,
   countsOf,
 }
-use Rattle.reading_laws.specs.Raised.{raiseName, raiseItem, raiseOperand, raiseArg, same}
-use Rattle.reading_laws.proofs.Bind.{Raises, stands, falls, bind-raised, cond-raised}
+use Rattle.reading_laws.specs.Raised.{raiseName, raiseItem, raiseOperand, raiseArg, same, Raises}
+use Rattle.reading_laws.proofs.Bind.{stands, falls, bind-raised, cond-raised}
 
 -- an argument's own place
 pub place-raised : (d : ℕ) (a : Arg) → placeOf (raiseArg d a) ≡ placeOf a + d
@@ -60,12 +58,14 @@ count-at-raised d limit n = go (countOf limit (n .spelling))
     go (Count v) = stands refl
     go Refused = falls
 
+-- a range is refused at one of its ends, or stands where the left one stands
 pub range-raised :
     (d limit : ℕ) (low high : Name) → Raises d (raiseArg d) (rangeOf limit (raiseName d low) (raiseName d high)) (rangeOf limit low high)
 unfolding rangeOf
 range-raised d limit low high =
     bind-raised _ (count-at-raised d limit low) λ a. bind-raised _ (count-at-raised d limit high) λ b. cond-raised (ltb b a) falls (stands refl)
 
+-- names
 pub items-raised : (d : ℕ) (a : Arg) → Raises d (map (raiseItem d)) (itemsOf (raiseArg d a)) (itemsOf a)
 unfolding itemsOf
 items-raised d (star o) = falls
@@ -81,6 +81,7 @@ names-raised : (d : ℕ) (is : List Item) → map (λ x. x .name) (map (raiseIte
 names-raised d [] = refl
 names-raised d (i ∷ is) = ap (λ (ns : List Name). raiseName d (i .name) ∷ ns) (names-raised d is)
 
+-- parameters or covariates
 pub operand-raised : (d : ℕ) (a : Arg) → Raises d (raiseOperand d) (operandOf (raiseArg d a)) (operandOf a)
 unfolding operandOf
 operand-raised d (star o) = stands refl
@@ -91,6 +92,7 @@ operand-raised d (range o a b) = falls
 operand-raised d (array o []) = falls
 operand-raised d (array o (i ∷ is)) = stands (simp (names-raised d is))
 
+-- a mode is its spelling's, and a refusal is at its place
 mode-raised : (d : ℕ) (f : Family) (n : Name) → Raises d same (modeOf f (raiseName d n)) (modeOf f n)
 mode-raised d f n = go (find (n .spelling) (labelsOf f))
   where
@@ -108,6 +110,7 @@ lone-mode-raised : (d : ℕ) (f : Family) (k : Kind) (n : Name) → Raises d sam
 lone-mode-raised d f aWord n = bind-raised _ (mode-raised d f n) λ m. stands refl
 lone-mode-raised d f aNumber n = falls
 
+-- modes have no place
 pub modes-raised : (d : ℕ) (f : Family) (a : Arg) → Raises d same (modesOf f (raiseArg d a)) (modesOf f a)
 unfolding modesOf
 modes-raised d f (star o) = stands refl
@@ -134,6 +137,7 @@ lone-count-raised : (d limit : ℕ) (k : Kind) (n : Name) → Raises d same (lon
 lone-count-raised d limit aWord n = falls
 lone-count-raised d limit aNumber n = bind-raised _ (count-at-raised d limit n) λ c. stands refl
 
+-- counts have no place
 pub counts-raised : (d limit : ℕ) (a : Arg) → Raises d same (countsOf limit (raiseArg d a)) (countsOf limit a)
 unfolding countsOf
 counts-raised d limit (star o) = falls

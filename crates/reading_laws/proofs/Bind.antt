@@ -1,7 +1,7 @@
 -- Raising goes through what answers are made with.
 -- Assumes nothing.
 use Prim.Native.Nat.{ℕ, _+_}
-use mathlib.Core.Path.{_≡_, refl, _∙_}
+use mathlib.Core.Path.{_≡_, refl}
 use mathlib.Core.Bool.{Bool, true, false, cond}
 use mathlib.Core.List.{List, [], _∷_, map}
 use mathlib.Core.Option.{Option, some, none, Option·map}
@@ -9,11 +9,21 @@ use Rattle.reading.specs.Statement.{Name}
 use Rattle.reading.specs.Answer.{Answer, accepted, refused, _>>=_}
 use Rattle.reading.specs.Argument.{Arg}
 use Rattle.reading.specs.Feature.{one, oneOrTwo, two, threeOrFour, mandatory, optionally}
-use Rattle.reading_laws.specs.Raised.{raiseName, raiseArg, raiseAnswer, same}
+use Rattle.reading_laws.specs.Raised.{raiseName, raiseArg, raiseAnswer, Raises}
 
--- The answer to a raised question is the raised answer: what each law about answers says.
-pub record Raises {A B : Type 0} (d : ℕ) (r : A → B) (after : Answer B) (before : Answer A) : Type 0 where
-  pub is : after ≡ raiseAnswer d r before
+-- one thing or another, by a test
+pub either : {A B : Type 0} (f : A → B) (t : Bool) {x y : B} (v w : A) → x ≡ f v → y ≡ f w → cond t x y ≡ f (cond t v w)
+either f true v w e h = e
+either f false v w e h = h
+
+-- answers that are raised both are raised under a test
+pub cond-raised :
+    {A B : Type 0} {d : ℕ} {r : A → B} {x y : Answer B} {v w : Answer A} (t : Bool)
+    → Raises d r x v
+    → Raises d r y w
+    → Raises d r (cond t x y) (cond t v w)
+cond-raised true e h = e
+cond-raised false e h = h
 
 -- both values, or both refused
 pub stands : {A B : Type 0} {d : ℕ} {r : A → B} {b : B} {a : A} → b ≡ r a → Raises d r (accepted b) (accepted a)
@@ -35,6 +45,7 @@ bind-raised {d} {r} {q} {before} {f} g e h = record { is = simp (e .is) (go befo
     go (refused n p) = refl
 
 module _ {A B : Type 0} {d : ℕ} {r : A → B} (k : Name) where
+  -- one argument, two, one or two, three or four: a wrong number is refused at the keyword
   pub one-raised :
       {f : Arg → Answer A} (g : Arg → Answer B) (args : List Arg)
       → ((a : Arg) → Raises d r (g (raiseArg d a)) (f a))
@@ -72,6 +83,7 @@ module _ {A B : Type 0} {d : ℕ} {r : A → B} (k : Name) where
   three-or-four-raised g (a ∷ b ∷ c ∷ e ∷ []) h = h a b c (some e)
   three-or-four-raised g (a ∷ b ∷ c ∷ e ∷ u ∷ us) h = falls
 
+  -- a `?` that may not stand is refused at the keyword
   pub mandatory-raised : {y : B} (x : A) (m : Bool) → y ≡ r x → Raises d r (mandatory (raiseName d k) m y) (mandatory k m x)
   mandatory-raised x true e = falls
   mandatory-raised x false e = stands e
@@ -83,12 +95,3 @@ pub optionally-raised :
     → Raises d (Option·map r) (optionally g (Option·map (raiseArg d) b)) (optionally f b)
 optionally-raised g none h = stands refl
 optionally-raised g (some a) h = bind-raised _ (h a) (λ x. stands refl)
-
--- one answer or another, by a test
-pub cond-raised :
-    {A B : Type 0} {d : ℕ} {r : A → B} {x y : Answer B} {v w : Answer A} (t : Bool)
-    → Raises d r x v
-    → Raises d r y w
-    → Raises d r (cond t x y) (cond t v w)
-cond-raised true e h = e
-cond-raised false e h = h

@@ -1,10 +1,9 @@
 -- Two accepted texts with a newline between them are read as the statements of the first and then those of the second, whose places lie
 -- further on by the first's length and the newline: as long as the whole keeps within 16,384 bytes and 256 statements.
 -- Assumes nothing.
-use Prim.Native.Nat.{ℕ, suc, _+_, _<_, _≤_}
+use Prim.Native.Nat.{ℕ, _+_, _≤_}
 use native.Mathlib.Omega.{arith}
-use native.Mathlib.Nat.{zero-add}
-use mathlib.Core.Path.{_≡_, refl, _∙_, ap, sym}
+use mathlib.Core.Path.{_≡_, refl, _∙_, ap}
 use mathlib.Core.Bool.{Bool, true, false, cond}
 use mathlib.Core.List.{List, [], _∷_, _++_, map}
 use borrow.Author.Tests.{le-ltb}
@@ -12,13 +11,12 @@ use lib.Dec.{ltb}
 use lib.ListN.{length, length-map}
 use Rattle.tokens.specs.declared.Scanned.{Scanned}
 use Rattle.tokens.specs.declared.Scanned.the-variants.{Whole, Stray}
-use Rattle.tokens.specs.Token.{Tokens, _▸_, separator}
 use Rattle.tokens.specs.Lex.{tokens}
 use Rattle.tokens.specs.Next.{scanned}
-use Rattle.token_laws.specs.Join.{append, raise}
+use Rattle.token_laws.specs.Join.{raise}
 use Rattle.token_laws.proofs.Joining.{tokens-newline}
 use Rattle.reading.specs.Statement.{Statement}
-use Rattle.reading.specs.Answer.{Answer, accepted, refused, tooLong}
+use Rattle.reading.specs.Answer.{accepted, tooLong}
 use Rattle.reading.specs.Read.{between, readFrom, readScanned, readText}
 use Rattle.reading_laws.specs.Raised.{raiseStatement, raiseRead}
 use Rattle.reading_laws.specs.Reads.{prependAll}
@@ -53,6 +51,7 @@ unfolding readText
 accepted-text limit text ss h e =
     simp (le-ltb 16384 (length text) h, accepted-whole limit (length text) 0 between (tokens text) ss e) e
 
+-- statements before accepted ones
 prepend-all : (ss ts : List Statement) → prependAll ss (accepted ts) ≡ accepted (ss ++ ts)
 prepend-all [] ts = refl
 prepend-all (s ∷ ss) ts = simp (prepend-all ss ts)
@@ -75,10 +74,13 @@ reading-joins limit a b ss ts p q short few =
   where
     d : ℕ
     d = length a + 1
+
     size : ℕ
     size = length (a ++ 10 ∷ b)
+
     raised : readFrom limit (length b + d) 0 between (raise d (tokens b)) ≡ accepted (map (raiseStatement d) ts)
     raised = reading-raised d limit (length b) 0 between (tokens b) ∙ ap (raiseRead d) (text-accepted limit b ts q)
+
     later : readFrom limit size (0 + length ss) between (raise d (tokens b)) ≡ accepted (map (raiseStatement d) ts)
     later =
         accepted-after limit (length b + d) size 0 (0 + length ss) between (raise d (tokens b)) (map (raiseStatement d) ts) raised

@@ -1,7 +1,7 @@
 -- What a token makes of what was read, raised.
 -- Assumes nothing.
 use Prim.Native.Nat.{ℕ, _+_}
-use mathlib.Core.Path.{_≡_, refl, _∙_, ap}
+use mathlib.Core.Path.{_≡_, refl}
 use mathlib.Core.Bool.{Bool, true, false, cond}
 use mathlib.Core.List.{List, [], _∷_, _++_, map, map-append}
 use lib.Dec.{ltb}
@@ -11,7 +11,7 @@ use Rattle.tokens.specs.Token.{Shape, word, number, mark}
 use Rattle.labels.specs.Word.{sameWord}
 use Rattle.reading.specs.Statement.{Name, Kind, aWord, aNumber, Item, Feature}
 use Rattle.reading.specs.Answer.{Answer, accepted, refused}
-use Rattle.reading.specs.Argument.{Arg, star, plus, symbol, single, range, array, rangeOf, itemsOf}
+use Rattle.reading.specs.Argument.{Arg, star, plus, single, array, rangeOf, itemsOf}
 use Rattle.reading.specs.Feature.{buildFeature}
 use Rattle.reading.specs.Syntax.{
   Call,
@@ -33,7 +33,6 @@ use Rattle.reading.specs.Syntax.{
   argumentRead,
   Step,
   more,
-  made,
   stop,
   wrong,
   name,
@@ -49,25 +48,20 @@ use Rattle.reading.specs.Syntax.{
   afterArgument,
   turn,
 }
-use Rattle.reading_laws.specs.Raised.{raiseName, raiseItem, raiseFeature, raiseArg, raiseCall, raiseState, raiseStep, raiseAnswer}
-use Rattle.reading_laws.proofs.Bind.{Raises}
+use Rattle.reading_laws.specs.Raised.{raiseName, raiseItem, raiseFeature, raiseArg, raiseCall, raiseState, raiseStep, Raises}
+use Rattle.reading_laws.proofs.Bind.{either}
 use Rattle.reading_laws.proofs.Arguments.{range-raised, items-raised}
 use Rattle.reading_laws.proofs.Features.{build-raised}
 
--- one step or another, by a test
-either :
-    (d : ℕ) (t : Bool) {x y : Step} (v w : Step) → x ≡ raiseStep d v → y ≡ raiseStep d w → cond t x y ≡ raiseStep d (cond t v w)
-either d true v w e h = e
-either d false v w e h = h
-
 -- a step or a refusal, by a test
 unless : (d : ℕ) (t : Bool) {x : Step} (v : Step) (o : ℕ) → x ≡ raiseStep d v → cond t x (wrong (o + d)) ≡ raiseStep d (cond t v (wrong o))
-unless d t v o e = either d t v (wrong o) e refl
+unless d t v o e = either (raiseStep d) t v (wrong o) e refl
 
+-- A statement's first token, further on.
 pub opened-raised : (d o : ℕ) (x : Shape) → opened (o + d) x ≡ raiseStep d (opened o x)
 unfolding opened
 opened-raised d o (word w) =
-    either d (sameWord w (bytes "LET")) (more letKeyword) (more (keyword (name o w))) refl refl
+    either (raiseStep d) (sameWord w (bytes "LET")) (more letKeyword) (more (keyword (name o w))) refl refl
 opened-raised d o (number w) = refl
 opened-raised d o (mark m) = refl
 
@@ -95,6 +89,7 @@ range-read-raised :
 range-read-raised d c (accepted a) e = rw (e .is)
 range-read-raised d c (refused n p) e = rw (e .is)
 
+-- the `)` and the `,` after an argument, and the `)` where the first would start
 closed-raised : (d limit : ℕ) (c : Call) (a : Arg) → closed limit (raiseCall d c) (raiseArg d a) ≡ raiseStep d (closed limit c a)
 unfolding closed
 closed-raised d limit (featureCall k m args) a =
@@ -111,18 +106,20 @@ empty-raised d limit o (featureCall k m []) = feature-made-raised d (buildFeatur
 empty-raised d limit o (featureCall k m (a ∷ rest)) = refl
 empty-raised d limit o (letCall n) = refl
 
+-- one more item of an array
 entered-raised :
     (d : ℕ) (c : Call) (p : ℕ) (is : List Item) (k : Kind) (o : ℕ) (w : List ℕ)
     → entered (raiseCall d c) (p + d) (map (raiseItem d) is) k (o + d) w ≡ raiseStep d (entered c p is k o w)
 entered-raised d c p is k o w =
     rw (length-map is (raiseItem d))
-    (either d (ltb (length is) 64) (more (itemRead c p (is ++ itemAs k o w ∷ []))) (stop 11 o) (simp map-append) refl)
+    (either (raiseStep d) (ltb (length is) 64) (more (itemRead c p (is ++ itemAs k o w ∷ []))) (stop 11 o) (simp map-append) refl)
 
+-- a mark after an argument
 after-argument-raised :
     (d limit o m : ℕ) (c : Call) (a : Arg)
     → afterArgument limit (o + d) m (raiseCall d c) (raiseArg d a) ≡ raiseStep d (afterArgument limit o m c a)
 after-argument-raised d limit o m c a =
-    either d (is "," m) (comma o c a) (cond (is ")" m) (closed limit c a) (wrong o)) (comma-raised d o c a)
+    either (raiseStep d) (is "," m) (comma o c a) (cond (is ")" m) (closed limit c a) (wrong o)) (comma-raised d o c a)
     (unless d (is ")" m) (closed limit c a) o (closed-raised d limit c a))
 
 -- A token that stands further on makes of what was read further on the same step, further on.
@@ -131,7 +128,7 @@ unfolding turn
 turn-raised d limit (keyword k) o (word w) = refl
 turn-raised d limit (keyword k) o (number w) = refl
 turn-raised d limit (keyword k) o (mark m) =
-    either d (is "?" m) (more (marked k)) (cond (is "(" m) (more (argument (featureCall k false []))) (wrong o)) refl
+    either (raiseStep d) (is "?" m) (more (marked k)) (cond (is "(" m) (more (argument (featureCall k false []))) (wrong o)) refl
     (unless d (is "(" m) (more (argument (featureCall k false []))) o refl)
 turn-raised d limit (marked k) o (word w) = refl
 turn-raised d limit (marked k) o (number w) = refl
@@ -148,10 +145,10 @@ turn-raised d limit (letNamed n) o (mark m) = unless d (is "," m) (more (argumen
 turn-raised d limit (argument c) o (word w) = refl
 turn-raised d limit (argument c) o (number w) = refl
 turn-raised d limit (argument c) o (mark m) =
-    either d (is "*" m) (more (argumentRead c (star o))) _ refl
-    (either d (is "+" m) (more (argumentRead c (plus o))) _ refl
-    (either d (is "@" m) (more (atSign c o)) _ refl
-    (either d (is "[" m) (more (arrayOpen c o)) _ refl
+    either (raiseStep d) (is "*" m) (more (argumentRead c (star o))) _ refl
+    (either (raiseStep d) (is "+" m) (more (argumentRead c (plus o))) _ refl
+    (either (raiseStep d) (is "@" m) (more (atSign c o)) _ refl
+    (either (raiseStep d) (is "[" m) (more (arrayOpen c o)) _ refl
     (unless d (is ")" m) (empty limit o c) o (empty-raised d limit o c)))))
 turn-raised d limit (atSign c p) o (word w) = refl
 turn-raised d limit (atSign c p) o (number w) = refl
@@ -159,7 +156,7 @@ turn-raised d limit (atSign c p) o (mark m) = refl
 turn-raised d limit (numberRead c n) o (word w) = refl
 turn-raised d limit (numberRead c n) o (number w) = refl
 turn-raised d limit (numberRead c n) o (mark m) =
-    either d (is "." m) (more (rangeOpen c n)) _ refl
+    either (raiseStep d) (is "." m) (more (rangeOpen c n)) _ refl
     (after-argument-raised d limit o m c (single (record { kind = aNumber; name = n })))
 turn-raised d limit (rangeOpen c n) o (word w) = refl
 turn-raised d limit (rangeOpen c n) o (number w) =
@@ -174,7 +171,7 @@ turn-raised d limit (item c p is) o (mark m) = refl
 turn-raised d limit (itemRead c p is) o (word w) = refl
 turn-raised d limit (itemRead c p is) o (number w) = refl
 turn-raised d limit (itemRead c p items) o (mark m) =
-    either d (is "," m) (more (item c p items)) _ refl (unless d (is "]" m) (more (argumentRead c (array p items))) o refl)
+    either (raiseStep d) (is "," m) (more (item c p items)) _ refl (unless d (is "]" m) (more (argumentRead c (array p items))) o refl)
 turn-raised d limit (argumentRead c a) o (word w) = refl
 turn-raised d limit (argumentRead c a) o (number w) = refl
 turn-raised d limit (argumentRead c a) o (mark m) = after-argument-raised d limit o m c a

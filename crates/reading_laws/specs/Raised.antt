@@ -1,7 +1,8 @@
 -- What becomes of the things of reading where the text stands so many bytes further on: places move, and nothing else does.
 use Prim.Native.Nat.{ℕ, _+_}
-use mathlib.Core.List.{List, [], _∷_, map}
-use mathlib.Core.Option.{Option, Option·map}
+use mathlib.Core.Path.{_≡_}
+use mathlib.Core.List.{List, map}
+use mathlib.Core.Option.{Option·map}
 use Rattle.reading.specs.Statement.{
   Name,
   Item,
@@ -132,6 +133,10 @@ raiseWhere d (inside s) = inside (raiseState d s)
 abbrev pub raiseAnswer : {A B : Type 0} → ℕ → (A → B) → Answer A → Answer B
 raiseAnswer d f (accepted a) = accepted (f a)
 raiseAnswer d f (refused n p) = refused n (p + d)
+
+-- The answer to a raised question is the raised answer: what each law about answers says.
+pub record Raises {A B : Type 0} (d : ℕ) (r : A → B) (after : Answer B) (before : Answer A) : Type 0 where
+  pub is : after ≡ raiseAnswer d r before
 
 -- a value in which no place stands
 abbrev pub same : {A : Type 0} → A → A
