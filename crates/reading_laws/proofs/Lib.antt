@@ -1,0 +1,9 @@
+pub mod Bind
+pub mod Arguments
+pub mod Features
+pub mod Steps
+pub mod Raising
+pub mod Accepting
+pub mod Scanning
+pub mod Appending
+pub mod Joining
