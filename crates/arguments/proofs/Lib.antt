@@ -1,0 +1,5 @@
+pub mod Reading
+pub mod Names
+pub mod Ranges
+pub mod Further
+pub mod Entries

@@ -1,0 +1,117 @@
+-- `arguments::number` meets its contract: a number alone, or the two ends of a range. Assumes nothing.
+use Prim.Native.Nat.{ℕ, _≤_, _<_}
+use mathlib.Core.Path.{_≡_, refl, _∙_, ap, sym}
+use mathlib.Core.List.{List}
+use native.Mathlib.Omega.{arith}
+use lib.Dec.{lit≤}
+use denote.Ref.{now}
+use Rattle.reading.specs.Statement.{Name}
+use Rattle.reading.specs.Argument.{rangeOf}
+use Rattle.reading.specs.Syntax.{turn, numberRead, rangeOpen, rangeRead}
+use Rattle.forms.specs.Items.{nameIn}
+use Rattle.forms.specs.Forms.{argIn}
+use Rattle.forms.specs.Fits.{Fits}
+use Rattle.tokens.proofs.Views.{Known, known, known-mark, known-number}
+use Rattle.arguments.specs.Answers.{stepIn, refusedBy, argThen, ArgFurther}
+use Rattle.arguments.proofs.Reading.{read-token, rejected, no-range}
+use Rattle.arguments.proofs.Names.{same-name, in-text}
+use Rattle.arguments.proofs.Further.{further}
+use borrow.Author.Needs.{needs}
+use Rattle.arguments.proofs.number.Statement.{statement}
+use Rattle.arguments.proofs.number.Tie as tie
+use Rattle.arguments.proofs.number.Reads as reads
+use Rattle.arguments.proofs.number.Lts as lts
+use Rattle.arguments.proofs.named.Reads as named-reads
+use Rattle.arguments.proofs.range_of.Reads as range-of-reads
+use Rattle.arguments.proofs.unexpected.Reads as unexpected-reads
+use Rattle.tokens.proofs.Cursor.token.Reads as token-reads
+
+-- what the kinds of the two tokens tell
+here : (d : tie.After-token) → Known (now (d .before .before .args .text)) (d .before .before .args .at) (d .token .result)
+here d = known _ _ (d .token .result) (d .token .ensures)
+
+beyond :
+    (d : tie.After-token2)
+    → Known (now (d .before .before .before .before .before .before .args .text)) (d .before .before .before .before .token .result .next .at) (d .token2 .result)
+beyond d = known _ _ (d .token2 .result) (d .token2 .ensures)
+
+-- src/lib.rt:157:9
+token-requires : tie.Need-token-requires
+token-requires c κs = search needs
+
+-- src/lib.rt:160:9
+returns : tie.Need-returns
+unfolding argThen ArgFurther argIn Fits
+returns c =
+    let d = c .before .before .before in
+    let a = d .before .before .args in
+    let p = d .before .before .pre in
+    ((λ call. no-range (a .limit) _ call (nameIn (now (a .text)) (a .name)) _ (d .token .result) (here d) (c .if1 .taken)), (omega arith, p .2, p .1))
+
+-- src/lib.rt:162:9
+token-requires-2 : tie.Need-token-requires-2
+token-requires-2 c κs = search needs
+
+-- src/lib.rt:164:33
+unexpected-requires : tie.Need-unexpected-requires
+unexpected-requires c κs = search needs
+
+-- src/lib.rt:164:9
+returns-2 : tie.Need-returns-2
+unfolding turn argThen ArgFurther
+returns-2 c =
+    let d = c .before .before .before in
+    let f = d .before .before .before .before in
+    let a = f .before .before .args in
+    let n = nameIn (now (a .text)) (a .name) in (
+      (λ call.
+          read-token (a .limit) _ (numberRead call n) _ _ _ (known-mark (here f) 46 (d .before .if1 .left) (lit≤ tt))
+          ∙ rejected (a .limit) _ (rangeOpen call n) _ (d .token2 .result) (beyond d) (λ w e. refl) (λ w e. absurd (c .before .if2 .taken e)) (λ h. refl)
+          ∙ ap refusedBy (sym (c .unexpected .ensures))),
+      tt,
+    )
+
+-- src/lib.rt:166:9
+named-requires : tie.Need-named-requires
+named-requires c κs = let r = known-number (beyond (c .before .before)) (c .if2 .left) in omega (arith, r .wide)
+
+-- src/lib.rt:168:5
+range-of-requires : tie.Need-range-of-requires
+range-of-requires c κs =
+    let d = c .before .before .before .before in
+    let f = d .before .before .before .before in
+    let r = known-number (beyond d) (c .before .before .if2 .left) in
+    (f .before .before .pre .1 .inside, in-text _ (d .token2 .result) (c .before .named .ensures) r, r .within)
+
+-- src/lib.rt:151:1
+returns-3 : tie.Need-returns-3
+unfolding turn
+returns-3 c =
+    let d = c .before .before .before .before .before in
+    let f = d .before .before .before .before in
+    let a = f .before .before .args in
+    let s = now (a .text) in
+    let n = nameIn s (a .name) in
+    let r = known-mark (here f) 46 (d .before .if1 .left) (lit≤ tt) in
+    let q = known-number (beyond d) (c .before .before .before .if2 .left) in (
+      (λ call.
+          read-token (a .limit) _ (numberRead call n) _ _ _ r
+          ∙ read-token (a .limit) _ (rangeOpen call n) _ _ _ q
+          ∙ ap (λ (h : Name). stepIn (a .limit) s (rangeRead call (rangeOf (a .limit) n h)) (d .token2 .result .next .at))
+          (same-name s (d .token2 .result) (c .before .before .named .ensures))
+          ∙ c .range-of .ensures .0 call),
+      further s (a .at) _ (c .range-of .result) (omega (arith, r .ahead, r .wide, q .ahead, q .wide)) (c .range-of .ensures .1),
+    )
+
+pub number-spec : {M : Type 1} → statement M
+number-spec =
+    tie.close
+    (tie.spec
+    token-requires
+    returns
+    token-requires-2
+    unexpected-requires
+    returns-2
+    named-requires
+    range-of-requires
+    returns-3)

@@ -1,0 +1,72 @@
+-- `arguments::symbol` meets its contract: a word behind the `@` is the symbol's name, and nothing else may follow. Assumes nothing.
+use Prim.Native.Nat.{ℕ, _≤_, _<_}
+use mathlib.Core.Path.{_≡_, refl, _∙_, ap, sym}
+use mathlib.Core.List.{List}
+use native.Mathlib.Omega.{arith}
+use borrow.Author.Tests.{ne-eqb}
+use lib.Dec.{lit≤}
+use denote.Ref.{now}
+use Rattle.reading.specs.Statement.{Name}
+use Rattle.reading.specs.Argument.{symbol}
+use Rattle.reading.specs.Syntax.{turn, atSign, argumentRead}
+use Rattle.tokens.proofs.Views.{Known, known, known-word}
+use Rattle.arguments.specs.Answers.{readIn, refusedBy, argThen, ArgFurther}
+use Rattle.arguments.proofs.Reading.{read-token, rejected}
+use Rattle.arguments.proofs.Names.{same-name, in-text}
+use Rattle.forms.specs.Forms.{argIn}
+use Rattle.forms.specs.Fits.{Fits}
+use borrow.Author.Needs.{needs}
+use Rattle.arguments.proofs.symbol.Statement.{statement}
+use Rattle.arguments.proofs.symbol.Tie as tie
+use Rattle.arguments.proofs.symbol.Reads as reads
+use Rattle.arguments.proofs.symbol.Lts as lts
+use Rattle.arguments.proofs.named.Reads as named-reads
+use Rattle.arguments.proofs.unexpected.Reads as unexpected-reads
+use Rattle.tokens.proofs.Cursor.token.Reads as token-reads
+
+-- what the token's kind tells
+here : (d : tie.After-token) → Known (now (d .before .before .args .text)) (d .before .before .args .at) (d .token .result)
+here d = known _ _ (d .token .result) (d .token .ensures)
+
+-- src/lib.rt:103:9
+token-requires : tie.Need-token-requires
+token-requires c κs = search needs
+
+-- src/lib.rt:106:33
+unexpected-requires : tie.Need-unexpected-requires
+unexpected-requires c κs = search needs
+
+-- src/lib.rt:106:9
+returns : tie.Need-returns
+unfolding turn argThen ArgFurther
+returns c =
+    let d = c .before .before .before .before in (
+      (λ limit call.
+          rejected limit _ (atSign call (d .before .before .args .sign)) _ (d .token .result) (here d) (λ w e. absurd (c .before .if1 .taken e))
+          (λ w e. refl) (λ h. refl)
+          ∙ ap refusedBy (sym (c .unexpected .ensures))),
+      tt,
+    )
+
+-- src/lib.rt:108:9
+named-requires : tie.Need-named-requires
+named-requires c κs = let r = known-word (here (c .before .before .before)) (c .if1 .left) in omega (arith, r .wide)
+
+-- src/lib.rt:97:1
+returns-2 : tie.Need-returns-2
+unfolding turn argThen ArgFurther argIn Fits
+returns-2 c =
+    let d = c .before .before .before .before in
+    let r = known-word (here d) (c .before .if1 .left) in
+    let n = c .named .ensures in
+    let s = now (d .before .before .args .text) in (
+      (λ limit call.
+          read-token limit _ (atSign call (d .before .before .args .sign)) _ _ _ r
+          ∙ ap (λ (x : Name). readIn limit s (argumentRead call (symbol (d .before .before .args .sign) x)) (d .token .result .next .at))
+          (same-name s (d .token .result) n)),
+      (omega (arith, r .ahead, r .wide), r .within, in-text s (d .token .result) n r),
+    )
+
+pub symbol-spec : {M : Type 1} → statement M
+symbol-spec =
+    tie.close (tie.spec token-requires unexpected-requires returns named-requires returns-2)

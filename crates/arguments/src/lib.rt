@@ -1,0 +1,293 @@
+// The arguments of a statement, read to its `)`. Each function's answer says how the reading of the statement goes on.
+ghost use mathlib.Core.Path.{_≡_};
+ghost use mathlib.Core.List.{List, _++_};
+ghost use Prim.Native.Nat.{ℕ, _≤_};
+ghost use lib.ListN.{length};
+ghost use Rattle.tokens.specs.Class.{classTable};
+ghost use Rattle.reading.specs.Statement.{Item, aNumber};
+ghost use Rattle.reading.specs.Argument.{rangeOf};
+ghost use Rattle.reading.specs.Argument.{Arg as Arg·spec};
+ghost use Rattle.reading.specs.Syntax.{Call, atSign, numberRead, arrayOpen, itemRead, argumentRead, rangeRead};
+ghost use Rattle.reading.specs.Syntax.{argument as argument·state, item as item·state};
+ghost use Rattle.forms.specs.Items.{tokensFrom, nameIn, entries, rest};
+ghost use Rattle.forms.specs.Fits.{InText, Stands};
+ghost use Rattle.arguments.specs.Answers.{readIn, stepIn, refusalOf, nameOf, argThen, ArgFurther, entryThen, EntryFurther, EntryListed, afterThen, AfterFurther};
+use counts::Counted;
+use forms::Arg;
+use forms::Items;
+use forms::Name;
+use forms::Refusal;
+use tokens::Cursor;
+use tokens::Token;
+
+// An argument with the cursor after it; a `)` where one would start; or a refusal.
+pub enum ArgRead {
+    Arg(Arg, Cursor),
+    Close { at: usize, next: Cursor },
+    Refused(Refusal),
+}
+
+// What stands behind an entry of an array: a `,`, or the array's `]`.
+pub enum Entry {
+    More(Cursor),
+    Done(Cursor),
+    Refused(Refusal),
+}
+
+// What stands behind an argument: a `,`, with its offset, or the `)`.
+pub enum After {
+    Comma { at: usize, next: Cursor },
+    Close(Cursor),
+    Refused(Refusal),
+}
+
+// A token that is not allowed: 2 for a byte that starts none, and 3 for any other, the text's end too.
+pub fn unexpected(token: Token) -> Refusal
+    ensures { λ r. ⌜ r ≡ refusalOf token ⌝ }
+{
+    if token.kind == 2 {
+        return Refusal {
+            number: 2,
+            place: token.start,
+        };
+    }
+    Refusal {
+        number: 3,
+        place: token.start,
+    }
+}
+
+// A word or a number as a name.
+pub fn named(token: Token) -> Name
+    requires { ⌜ token .start ≤ token .next .at ⌝ }
+    ensures { λ r. ⌜ r ≡ nameOf token ⌝ }
+{
+    Name {
+        offset: token.start,
+        length: token.next.at - token.start,
+    }
+}
+
+// The name behind an `@` that stands at `sign`.
+fn symbol(text: &[u8], classes: &[u8; 256], sign: usize, at: usize) -> ArgRead
+    requires { ⌜ now classes ≡ classTable ⌝ }
+    ensures { λ r. ⌜ ((limit : ℕ) (c : Call) → readIn limit (now (text .entry)) (atSign c sign) at ≡ argThen limit (now (text .entry)) c r) ⌝ }
+    ensures { λ r. ⌜ ArgFurther (now (text .entry)) at r ⌝ }
+{
+    let c = Cursor { at };
+    let token = c.token(text, classes);
+    let next = token.next;
+    if token.kind != 0 {
+        return ArgRead::Refused(unexpected(token));
+    }
+    let name = named(token);
+    ArgRead::Arg(Arg::Symbol { at: sign, name }, next)
+}
+
+// The two ends of a range: each a count, the left one judged first, and not backwards.
+fn range_of(text: &[u8], low: Name, high: Name, limit: u32, next: Cursor) -> ArgRead
+    requires { ⌜ InText (now text) low × InText (now text) high × (next .at ≤ length (now text)) ⌝ }
+    ensures { λ r. ⌜
+        ((c : Call)
+        → stepIn limit (now (text .entry)) (rangeRead c (rangeOf limit (nameIn (now (text .entry)) low) (nameIn (now (text .entry)) high))) (next .at)
+        ≡ argThen limit (now (text .entry)) c r)
+        ⌝ }
+    ensures { λ r. ⌜ ArgFurther (now (text .entry)) (next .at) r ⌝ }
+{
+    let Counted::Count(a) = forms::count_at(text, low, limit) else {
+        return ArgRead::Refused(Refusal {
+            number: 4,
+            place: low.offset,
+        });
+    };
+    let Counted::Count(b) = forms::count_at(text, high, limit) else {
+        return ArgRead::Refused(Refusal {
+            number: 4,
+            place: high.offset,
+        });
+    };
+    if b < a {
+        return ArgRead::Refused(Refusal {
+            number: 5,
+            place: low.offset,
+        });
+    }
+    ArgRead::Arg(
+        Arg::Range {
+            at: low.offset,
+            low: a,
+            high: b,
+        },
+        next,
+    )
+}
+
+// A number, which a `..` and another may follow.
+fn number(text: &[u8], classes: &[u8; 256], name: Name, at: usize, limit: u32) -> ArgRead
+    requires { ⌜ (now classes ≡ classTable) × Stands (now text) aNumber name × (at ≤ length (now text)) ⌝ }
+    ensures { λ r. ⌜ ((c : Call) → readIn limit (now (text .entry)) (numberRead c (nameIn (now (text .entry)) name)) at ≡ argThen limit (now (text .entry)) c r) ⌝ }
+    ensures { λ r. ⌜ ArgFurther (now (text .entry)) at r ⌝ }
+{
+    let c = Cursor { at };
+    let token = c.token(text, classes);
+    let next = token.next;
+    if token.kind != b'.' {
+        return ArgRead::Arg(Arg::Number(name), c);
+    }
+    let end = next.token(text, classes);
+    if end.kind != 1 {
+        return ArgRead::Refused(unexpected(end));
+    }
+    let high = named(end);
+    let after = end.next;
+    range_of(text, name, high, limit, after)
+}
+
+// What stands behind an entry of an array.
+fn after_entry(text: &[u8], classes: &[u8; 256], at: usize) -> Entry
+    requires { ⌜ now classes ≡ classTable ⌝ }
+    ensures { λ r. ⌜
+        ((limit : ℕ) (c : Call) (p : ℕ) (items : List Item)
+        → readIn limit (now (text .entry)) (itemRead c p items) at ≡ entryThen limit (now (text .entry)) c p items r)
+        ⌝ }
+    ensures { λ r. ⌜ EntryFurther (now (text .entry)) at (rest (tokensFrom (now (text .entry)) at)) r ⌝ }
+{
+    let c = Cursor { at };
+    let token = c.token(text, classes);
+    let next = token.next;
+    if token.kind == b',' {
+        return Entry::More(next);
+    }
+    if token.kind == b']' {
+        return Entry::Done(next);
+    }
+    Entry::Refused(unexpected(token))
+}
+
+// An entry of an array that has `count` before it, and what stands behind it.
+fn read_entry(text: &[u8], classes: &[u8; 256], at: usize, count: usize) -> Entry
+    requires { ⌜ now classes ≡ classTable ⌝ }
+    ensures { λ r. ⌜
+        ((limit : ℕ) (c : Call) (p : ℕ) (items : List Item)
+        → length items ≡ count
+        → readIn limit (now (text .entry)) (item·state c p items) at
+        ≡ entryThen limit (now (text .entry)) c p (items ++ entries 1 (tokensFrom (now (text .entry)) at)) r)
+        ⌝ }
+    ensures { λ r. ⌜ EntryFurther (now (text .entry)) at (rest (rest (tokensFrom (now (text .entry)) at))) r ⌝ }
+    ensures { λ r. ⌜ EntryListed (now (text .entry)) at r ⌝ }
+{
+    let c = Cursor { at };
+    let token = c.token(text, classes);
+    let next = token.next;
+    if 1 < token.kind {
+        return Entry::Refused(unexpected(token));
+    }
+    if 64 <= count {
+        return Entry::Refused(Refusal {
+            number: 11,
+            place: token.start,
+        });
+    }
+    after_entry(text, classes, next.at)
+}
+
+// An array whose `[` stands at `bracket`.
+fn array(text: &[u8], classes: &[u8; 256], bracket: usize, at: usize) -> ArgRead
+    requires { ⌜ now classes ≡ classTable ⌝ }
+    ensures { λ r. ⌜ ((limit : ℕ) (c : Call) → readIn limit (now (text .entry)) (arrayOpen c bracket) at ≡ argThen limit (now (text .entry)) c r) ⌝ }
+    ensures { λ r. ⌜ ArgFurther (now (text .entry)) at r ⌝ }
+{
+    let c = Cursor { at };
+    let token = c.token(text, classes);
+    let next = token.next;
+    if token.kind == b']' {
+        return ArgRead::Arg(
+            Arg::Array {
+                at: bracket,
+                items: Items {
+                    first: at,
+                    count: 0,
+                },
+            },
+            next,
+        );
+    }
+    let mut n = 0;
+    let mut cur = at;
+    loop {
+        match read_entry(text, classes, cur, n) {
+            Entry::More(c) => {
+                cur = c.at;
+                n += 1;
+            }
+            Entry::Done(c) => {
+                return ArgRead::Arg(
+                    Arg::Array {
+                        at: bracket,
+                        items: Items {
+                            first: at,
+                            count: n + 1,
+                        },
+                    },
+                    c,
+                );
+            }
+            Entry::Refused(r) => return ArgRead::Refused(r),
+        }
+    }
+}
+
+// One argument.
+pub fn argument(text: &[u8], classes: &[u8; 256], at: usize, limit: u32) -> ArgRead
+    requires { ⌜ now classes ≡ classTable ⌝ }
+    ensures { λ r. ⌜ ((c : Call) → readIn limit (now (text .entry)) (argument·state c) at ≡ argThen limit (now (text .entry)) c r) ⌝ }
+    ensures { λ r. ⌜ ArgFurther (now (text .entry)) at r ⌝ }
+{
+    let c = Cursor { at };
+    let token = c.token(text, classes);
+    let next = token.next;
+    let kind = token.kind;
+    match kind {
+        0 => {
+            let name = named(token);
+            ArgRead::Arg(Arg::Word(name), next)
+        }
+        1 => {
+            let name = named(token);
+            number(text, classes, name, next.at, limit)
+        }
+        b'*' => ArgRead::Arg(Arg::Star(token.start), next),
+        b'+' => ArgRead::Arg(Arg::Plus(token.start), next),
+        b'@' => symbol(text, classes, token.start, next.at),
+        b'[' => array(text, classes, token.start, next.at),
+        b')' => ArgRead::Close {
+            at: token.start,
+            next,
+        },
+        _ => ArgRead::Refused(unexpected(token)),
+    }
+}
+
+// What stands behind an argument.
+pub fn after_argument(text: &[u8], classes: &[u8; 256], at: usize) -> After
+    requires { ⌜ now classes ≡ classTable ⌝ }
+    ensures { λ r. ⌜
+        ((limit : ℕ) (c : Call) (a : Arg·spec)
+        → readIn limit (now (text .entry)) (argumentRead c a) at ≡ afterThen limit (now (text .entry)) c a r)
+        ⌝ }
+    ensures { λ r. ⌜ AfterFurther (now (text .entry)) at r ⌝ }
+{
+    let c = Cursor { at };
+    let token = c.token(text, classes);
+    let next = token.next;
+    if token.kind == b',' {
+        return After::Comma {
+            at: token.start,
+            next,
+        };
+    }
+    if token.kind == b')' {
+        return After::Close(next);
+    }
+    After::Refused(unexpected(token))
+}
