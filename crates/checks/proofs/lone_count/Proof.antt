@@ -1,0 +1,29 @@
+-- `checks::lone_count` meets its contract. Assumes nothing.
+use mathlib.Core.Path.{_∙_, sym}
+use Rattle.reading.specs.Argument.{countAt}
+use Rattle.forms.specs.Forms.{countsIn}
+use Rattle.checks.specs.Answers.{countsAs}
+use borrow.Author.Needs.{needs}
+use Rattle.checks.proofs.lone_count.Statement.{statement}
+use Rattle.checks.proofs.lone_count.Tie as tie
+
+count-at-requires : tie.Need-count-at-requires
+count-at-requires c κs = search needs
+
+enum-known-value : tie.Need-enum-known-value
+enum-known-value c = search needs
+
+enum-told : tie.Need-enum-told
+enum-told c = search needs
+
+returns : tie.Need-returns
+unfolding countsAs countsIn countAt
+returns c = rw (sym (c .before .before .before .count-at .ensures) ∙ c .before .value .given .1)
+
+returns-2 : tie.Need-returns-2
+unfolding countsAs countsIn countAt
+returns-2 c = rw (sym (c .before .before .count-at .ensures) ∙ c .enum-told .given .1)
+
+pub lone-count-spec : {M : Type 1} → statement M
+lone-count-spec =
+    tie.close (tie.spec count-at-requires enum-known-value enum-told returns returns-2)
