@@ -51,7 +51,7 @@ argThen limit s c (argRead.Refused r) = refusedBy r
 -- the cursor after an argument is further on, and in the text
 unfoldable pub ArgFurther : List ℕ → ℕ → ArgRead → Type 0
 ArgFurther s o (argRead.Arg a n) = (o ≤ n .at) × (n .at ≤ length s) × Fits s a
-ArgFurther s o (argRead.Close p n) = (o ≤ n .at) × (n .at ≤ length s)
+ArgFurther s o (argRead.Close p n) = (o < n .at) × (n .at ≤ length s)
 ArgFurther s o (argRead.Refused r) = Unit {0}
 
 -- an array that has these entries so far
