@@ -102,8 +102,8 @@ fn lower_byte(b: u8) -> u8
     b
 }
 
-// The lengths are compared before the bytes: most labels differ from a word there already.
-fn same_word(word: &[u8], label: &[u8]) -> bool
+// Whether two words are the same, ignoring case. The lengths are compared before the bytes: most labels differ from a word there already.
+pub fn same_word(word: &[u8], label: &[u8]) -> bool
     ensures { λ r. ⌜ r ≡ sameWord (now (word .entry)) (now (label .entry)) ⌝ }
 {
     if word.len() != label.len() {

@@ -1,0 +1,32 @@
+-- `features::effects_of` meets its contract. Assumes nothing.
+use denote.Ref.{now}
+use Rattle.checks.specs.Answers.{modesAs}
+use borrow.Author.Needs.{needs}
+use Rattle.features.proofs.effects_of.Statement.{statement}
+use Rattle.features.proofs.effects_of.Tie as tie
+
+modes-of-requires : tie.Need-modes-of-requires
+modes-of-requires c κs = search needs
+
+enum-known-modes : tie.Need-enum-known-modes
+enum-known-modes c = search needs
+
+explicit-requires : tie.Need-explicit-requires
+explicit-requires c κs = search needs
+
+enum-known-r : tie.Need-enum-known-r
+enum-known-r c = search needs
+
+returns : tie.Need-returns
+unfolding modesAs
+returns c = let d = c .before .before .before .before in
+    rw (← (d .modes-of .ensures), c .before .before .modes .given .1) (c .explicit .ensures (now (d .before .before .args .text)))
+
+returns-2 : tie.Need-returns-2
+unfolding modesAs
+returns-2 c = rw (← (c .before .before .before .modes-of .ensures), c .before .r .given .1)
+
+pub effects-of-spec : {M : Type 1} → statement M
+effects-of-spec =
+    tie.close
+    (tie.spec modes-of-requires enum-known-modes explicit-requires enum-known-r returns returns-2)

@@ -1,0 +1,89 @@
+-- `features::indirect_effect` meets its contract. Assumes nothing.
+use denote.Ref.{now}
+use Rattle.reading.specs.Feature.{featureOf}
+use Rattle.forms.specs.Forms.{featureIn}
+use Rattle.checks.specs.Answers.{modesAs}
+use Rattle.features.specs.Answers.{builtAs}
+use Rattle.features.proofs.Arity.{two-is, two-not}
+use borrow.Author.Needs.{needs}
+use Rattle.features.proofs.indirect_effect.Statement.{statement}
+use Rattle.features.proofs.indirect_effect.Tie as tie
+
+wrong-number-requires : tie.Need-wrong-number-requires
+wrong-number-requires c κs = search needs
+
+returns : tie.Need-returns
+unfolding builtAs featureOf
+returns c = λ limit k e. rw (c .wrong-number .ensures, two-not (c .before .before .before .before .args .args) (c .before .if1 .taken), e)
+
+modes-of-requires : tie.Need-modes-of-requires
+modes-of-requires c κs = search needs
+
+enum-known-mode : tie.Need-enum-known-mode
+enum-known-mode c = search needs
+
+modes-of-requires-2 : tie.Need-modes-of-requires-2
+modes-of-requires-2 c κs = search needs
+
+enum-known-production : tie.Need-enum-known-production
+enum-known-production c = search needs
+
+mandatory-requires : tie.Need-mandatory-requires
+mandatory-requires c κs = search needs
+
+enum-known-r : tie.Need-enum-known-r
+enum-known-r c = search needs
+
+enum-known-r-2 : tie.Need-enum-known-r-2
+enum-known-r-2 c = search needs
+
+returns-2 : tie.Need-returns-2
+unfolding featureOf featureIn modesAs
+returns-2 c = λ limit k e.
+    let d = c .before .before .before .before in
+    let g = d .before .before .before .before in
+    let a = g .before .before .before .before .args in
+    rw (
+      two-is (a .args) (g .before .if1 .left),
+      ← (g .modes-of .ensures),
+      d .before .before .mode .given .1,
+      ← (d .modes-of2 .ensures),
+      c .before .before .production .given .1,
+    )
+    (c .mandatory .ensures (now (a .text)) k e)
+
+returns-3 : tie.Need-returns-3
+unfolding builtAs featureOf modesAs
+returns-3 c = λ limit k e.
+    let d = c .before .before .before in
+    let g = d .before .before .before .before in
+    rw (
+      two-is (g .before .before .before .before .args .args) (g .before .if1 .left),
+      ← (g .modes-of .ensures),
+      d .before .before .mode .given .1,
+      ← (d .modes-of2 .ensures),
+      c .before .r .given .1,
+    )
+
+returns-4 : tie.Need-returns-4
+unfolding builtAs featureOf modesAs
+returns-4 c = λ limit k e.
+    let g = c .before .before .before in
+    rw (two-is (g .before .before .before .before .args .args) (g .before .if1 .left), ← (g .modes-of .ensures), c .before .r2 .given .1)
+
+pub indirect-effect-spec : {M : Type 1} → statement M
+indirect-effect-spec =
+    tie.close
+    (tie.spec
+    wrong-number-requires
+    returns
+    modes-of-requires
+    enum-known-mode
+    modes-of-requires-2
+    enum-known-production
+    mandatory-requires
+    enum-known-r
+    enum-known-r-2
+    returns-2
+    returns-3
+    returns-4)

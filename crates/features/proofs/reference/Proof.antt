@@ -1,0 +1,38 @@
+-- `features::reference` meets its contract. Assumes nothing.
+use Rattle.forms.specs.Forms.{someNameIn}
+use Rattle.checks.specs.Answers.{nameAs}
+use Rattle.features.specs.Answers.{someNameAs}
+use Rattle.features.proofs.Arity.{second-none, second-some}
+use borrow.Author.Needs.{needs}
+use Rattle.features.proofs.reference.Statement.{statement}
+use Rattle.features.proofs.reference.Tie as tie
+
+returns : tie.Need-returns
+unfolding someNameAs someNameIn
+returns c = λ s. rw (second-none (c .before .before .args .args) (c .if1 .taken))
+
+number-of-requires : tie.Need-number-of-requires
+number-of-requires c κs = search needs
+
+enum-known-name : tie.Need-enum-known-name
+enum-known-name c = search needs
+
+enum-known-r : tie.Need-enum-known-r
+enum-known-r c = search needs
+
+returns-2 : tie.Need-returns-2
+unfolding someNameAs someNameIn nameAs
+returns-2 c = λ s.
+    let d = c .before .before .before in
+    rw (second-some (d .before .before .before .args .args) (d .before .if1 .left), ← (d .number-of .ensures s), c .before .name .given .1)
+
+returns-3 : tie.Need-returns-3
+unfolding someNameAs nameAs
+returns-3 c = λ s.
+    let d = c .before .before .before in
+    rw (second-some (d .before .before .before .args .args) (d .before .if1 .left), ← (d .number-of .ensures s), c .before .r .given .1)
+
+pub reference-spec : {M : Type 1} → statement M
+reference-spec =
+    tie.close
+    (tie.spec returns number-of-requires enum-known-name enum-known-r returns-2 returns-3)

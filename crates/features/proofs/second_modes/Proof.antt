@@ -1,0 +1,36 @@
+-- `features::second_modes` meets its contract. Assumes nothing.
+use Rattle.checks.specs.Answers.{modesAs}
+use Rattle.forms.specs.Forms.{someModesIn}
+use Rattle.features.specs.Answers.{someModesAs}
+use Rattle.features.proofs.Arity.{second-none, second-some}
+use borrow.Author.Needs.{needs}
+use Rattle.features.proofs.second_modes.Statement.{statement}
+use Rattle.features.proofs.second_modes.Tie as tie
+
+returns : tie.Need-returns
+unfolding someModesAs someModesIn
+returns c = rw (second-none (c .before .before .before .args .args) (c .if1 .taken))
+
+modes-of-requires : tie.Need-modes-of-requires
+modes-of-requires c κs = search needs
+
+enum-known-modes : tie.Need-enum-known-modes
+enum-known-modes c = search needs
+
+enum-known-r : tie.Need-enum-known-r
+enum-known-r c = search needs
+
+returns-2 : tie.Need-returns-2
+unfolding someModesAs someModesIn modesAs
+returns-2 c = let d = c .before .before .before in
+    rw (second-some (d .before .before .before .before .args .args) (d .before .if1 .left), ← (d .modes-of .ensures), c .before .modes .given .1)
+
+returns-3 : tie.Need-returns-3
+unfolding someModesAs modesAs
+returns-3 c = let d = c .before .before .before in
+    rw (second-some (d .before .before .before .before .args .args) (d .before .if1 .left), ← (d .modes-of .ensures), c .before .r .given .1)
+
+pub second-modes-spec : {M : Type 1} → statement M
+second-modes-spec =
+    tie.close
+    (tie.spec returns modes-of-requires enum-known-modes enum-known-r returns-2 returns-3)

@@ -1,0 +1,112 @@
+-- `statements::feature_statement` meets its contract: the rest of the statement, and what the keyword makes of it. Assumes nothing.
+use Prim.Native.Nat.{ℕ, suc, _+_, _-_, _≤_, _<_}
+use mathlib.Core.Path.{_≡_, refl, _∙_, ap, sym, subst}
+use mathlib.Core.List.{List, []}
+use native.Mathlib.Omega.{arith}
+use lib.ListN.{length}
+use denote.Ref.{now}
+use Rattle.reading.specs.Statement.{Feature}
+use Rattle.reading.specs.Answer.{Answer}
+use Rattle.reading.specs.Syntax.{featureMade}
+use Rattle.forms.specs.Items.{nameIn}
+use Rattle.forms.specs.Forms.{statementIn}
+use Rattle.arguments.specs.Answers.{stepIn}
+use Rattle.calls.specs.Answers.{featureThen, FeatureFurther}
+use Rattle.features.specs.Answers.{builtAs}
+use Rattle.statements.specs.Answers.{statementThen, StatementFurther}
+use borrow.Author.Needs.{needs}
+use Rattle.statements.proofs.feature_statement.Statement.{statement}
+use Rattle.statements.proofs.feature_statement.Tie as tie
+use Rattle.statements.proofs.feature_statement.Reads as reads
+use Rattle.statements.proofs.feature_statement.Lts as lts
+use Rattle.calls.proofs.read_feature.Reads as read-feature-reads
+use Rattle.features.proofs.build.Reads as build-reads
+
+-- src/lib.rt:105:11
+read-feature-requires : tie.Need-read-feature-requires
+read-feature-requires c κs = search needs
+
+-- src/lib.rt:107:13
+enum-known-optional : tie.Need-enum-known-optional
+enum-known-optional c = search needs
+
+-- src/lib.rt:110:20
+build-requires : tie.Need-build-requires
+unfolding FeatureFurther
+build-requires c κs =
+    let x = c .before .optional .given in
+    let d = c .before .before .before in
+    let a = d .before .before .args in
+    let p = d .before .before .pre in
+    let f = subst (FeatureFurther (now (a .text)) (a .at)) (x .1) (d .read-feature .ensures .1) in
+    ((p .0, p .1, p .2), (p .3, f .2))
+
+-- src/lib.rt:111:28
+enum-known-feature : tie.Need-enum-known-feature
+enum-known-feature c = search needs
+
+-- src/lib.rt:112:28
+enum-known-r : tie.Need-enum-known-r
+enum-known-r c = search needs
+
+-- src/lib.rt:114:30
+enum-known-r-2 : tie.Need-enum-known-r-2
+enum-known-r-2 c = search needs
+
+-- src/lib.rt:100:1
+returns : tie.Need-returns
+unfolding featureThen FeatureFurther featureMade builtAs statementThen StatementFurther statementIn
+returns c =
+    let e = c .before .before .before in
+    let x = e .before .before .optional .given in
+    let d = e .before .before .before .before in
+    let a = d .before .before .args in
+    let s = now (a .text) in
+    let k = nameIn s (a .name) in
+    let f = subst (FeatureFurther s (a .at)) (x .1) (d .read-feature .ensures .1) in (
+      d .read-feature .ensures .0 k
+          ∙ ap (featureThen (a .limit) s k) (x .1)
+          ∙ ap (λ (y : Answer Feature). stepIn (a .limit) s (featureMade y) (x .0 .1 .1 .0 .at))
+          (sym (e .build .ensures) ∙ ap (builtAs s) (c .before .feature .given .1)),
+      (f .0, f .1),
+    )
+
+-- src/lib.rt:100:1
+returns-2 : tie.Need-returns-2
+unfolding featureThen featureMade builtAs statementThen StatementFurther
+returns-2 c =
+    let e = c .before .before .before in
+    let x = e .before .before .optional .given in
+    let d = e .before .before .before .before in
+    let a = d .before .before .args in
+    let s = now (a .text) in
+    let k = nameIn s (a .name) in (
+      d .read-feature .ensures .0 k
+          ∙ ap (featureThen (a .limit) s k) (x .1)
+          ∙ ap (λ (y : Answer Feature). stepIn (a .limit) s (featureMade y) (x .0 .1 .1 .0 .at))
+          (sym (e .build .ensures) ∙ ap (builtAs s) (c .before .r .given .1)),
+      tt,
+    )
+
+-- src/lib.rt:100:1
+returns-3 : tie.Need-returns-3
+unfolding featureThen statementThen StatementFurther
+returns-3 c =
+    let d = c .before .before .before in
+    let a = d .before .before .args in
+    let k = nameIn (now (a .text)) (a .name) in
+    (d .read-feature .ensures .0 k ∙ ap (featureThen (a .limit) (now (a .text)) k) (c .before .r2 .given .1), tt)
+
+pub feature-statement-spec : {M : Type 1} → statement M
+feature-statement-spec =
+    tie.close
+    (tie.spec
+    read-feature-requires
+    enum-known-optional
+    build-requires
+    enum-known-feature
+    enum-known-r
+    enum-known-r-2
+    returns
+    returns-2
+    returns-3)

@@ -1,0 +1,259 @@
+-- `statements::next_statement` meets its contract: the first token that is no separator starts a statement, is the text's end, or is refused.
+-- Assumes nothing.
+use Prim.Native.Nat.{ℕ, suc, _+_, _-_, _≤_, _<_}
+use mathlib.Core.Path.{_≡_, refl, _∙_, ap, sym, subst}
+use mathlib.Core.List.{List, []}
+use native.Mathlib.Omega.{arith}
+use lib.ListN.{length}
+use denote.Ref.{now}
+use native.Mathlib.Numerals.{add-one}
+use lib.Dec.{lit≤}
+use Rattle.tokens.specs.Token.{Token, Tokens, word, _▸_}
+use Rattle.reading.specs.Statement.{Name}
+use Rattle.reading.specs.Answer.{Answer, accepted, refused}
+use Rattle.reading.specs.Syntax.{opened}
+use Rattle.reading.specs.Read.{Where, between, prepend, readFrom}
+use Rattle.reading.specs.One.{One, oneStep, readOne}
+use Rattle.forms.specs.Items.{tokensFrom, nameIn}
+use Rattle.forms.specs.Forms.{statementIn}
+use Rattle.tokens.proofs.Steps.{token}
+use Rattle.tokens.proofs.Views.{part, Reads, Known, known, known-word, known-end}
+use Rattle.arguments.specs.Answers.{stepIn}
+use Rattle.arguments.proofs.Names.{same-name, in-text}
+use Rattle.statements.specs.Answers.{readAt, statementThen, StatementFurther, EndedThen, nextThen, NextFurther}
+use Rattle.statements.proofs.Whole.{refusedAs, oneThen, first-word, between-crowded, at-finish}
+use borrow.Author.Needs.{needs}
+use Rattle.statements.proofs.next_statement.Statement.{statement}
+use Rattle.statements.proofs.next_statement.Tie as tie
+use Rattle.statements.proofs.next_statement.Reads as reads
+use Rattle.statements.proofs.next_statement.Lts as lts
+use Rattle.arguments.proofs.named.Reads as named-reads
+use Rattle.statements.proofs.behind.Reads as behind-reads
+use Rattle.statements.proofs.crowded.Reads as crowded-reads
+use Rattle.statements.proofs.first_token.Reads as first-token-reads
+use Rattle.statements.proofs.statement.Reads as statement-reads
+
+-- what the token's kind tells
+here : (d : tie.After-first-token) → Known (now (d .before .before .args .text)) (d .first-token .ensures .place) (d .first-token .result)
+here d = known _ _ (d .first-token .result) (d .first-token .ensures .stands)
+
+-- a word stands there
+word-at :
+    (m : tie.After-next)
+    → Reads (now (m .before .before .before .before .before .before .before .before .args .text))
+    (m .before .before .before .before .before .before .first-token .ensures .place)
+    (token (m .before .before .before .before .before .before .first-token .result .start)
+    (word (part (now (m .before .before .before .before .before .before .before .before .args .text))
+    (m .before .before .before .before .before .before .first-token .result .start) (m .before .before .before .before .before .before .first-token .result .next .at))))
+    (m .before .before .before .before .before .before .first-token .result .next .at)
+word-at m = known-word (here (m .before .before .before .before .before .before)) (m .before .if3 .left)
+
+word-here :
+    (m : tie.After-named)
+    → Reads (now (m .before .before .before .before .before .before .before .before .before .args .text))
+    (m .before .before .before .before .before .before .before .first-token .ensures .place)
+    (token (m .before .before .before .before .before .before .before .first-token .result .start)
+    (word (part (now (m .before .before .before .before .before .before .before .before .before .args .text))
+    (m .before .before .before .before .before .before .before .first-token .result .start) (m .before .before .before .before .before .before .before .first-token .result .next .at))))
+    (m .before .before .before .before .before .before .before .first-token .result .next .at)
+word-here m = word-at (m .before)
+
+-- reading from the word on is reading the statement that it opens, and then on
+opened-here :
+    (m : tie.After-named)
+    → readAt (m .before .before .before .before .before .before .before .before .before .args .limit)
+    (now (m .before .before .before .before .before .before .before .before .before .args .text))
+    (m .before .before .before .before .before .before .before .before .before .args .n)
+    between
+    (m .before .before .before .before .before .before .before .first-token .ensures .place)
+    ≡ oneThen (m .before .before .before .before .before .before .before .before .before .args .limit)
+    (length (now (m .before .before .before .before .before .before .before .before .before .args .text)))
+    (m .before .before .before .before .before .before .before .before .before .args .n)
+    (stepIn (m .before .before .before .before .before .before .before .before .before .args .limit)
+    (now (m .before .before .before .before .before .before .before .before .before .args .text))
+    (opened (m .named .result .offset) (word (nameIn (now (m .before .before .before .before .before .before .before .before .before .args .text)) (m .named .result) .spelling)))
+    (m .before .before .before .before .before .before .before .first-token .result .next .at))
+opened-here m =
+    let d = m .before .before .before .before .before .before .before in
+    let a = d .before .before .args in
+    let s = now (a .text) in
+    let t = d .first-token .result in
+    ap (readFrom (a .limit) (length s) (a .n) between) (word-here m .tokens)
+    ∙ first-word (a .limit) (length s) (a .n) (t .start) (part s (t .start) (t .next .at)) (tokensFrom s (t .next .at)) (m .before .before .before .before .if2 .left)
+    ∙ ap (λ (k : Name). oneThen (a .limit) (length s) (a .n) (stepIn (a .limit) s (opened (k .place) (word (k .spelling))) (t .next .at)))
+    (same-name s t (m .named .ensures))
+
+-- src/lib.rt:196:9
+first-token-requires : tie.Need-first-token-requires
+first-token-requires c κs = search needs
+
+-- src/lib.rt:198:9
+returns : tie.Need-returns
+unfolding nextThen NextFurther
+returns c =
+    let d = c .before .before in
+    let a = d .before .before .args in
+    let f = d .first-token .ensures in
+    (f .same (a .limit) (a .n) ∙ at-finish (a .limit) _ (a .n) _ (d .first-token .result) (known-end (here d) (c .if1 .taken)), tt)
+
+-- src/lib.rt:201:34
+crowded-requires : tie.Need-crowded-requires
+crowded-requires c κs = search needs
+
+-- src/lib.rt:201:9
+returns-2 : tie.Need-returns-2
+unfolding nextThen NextFurther
+returns-2 c =
+    let d = c .before .before .before .before in
+    let a = d .before .before .args in
+    let f = d .first-token .ensures in (
+      f .same (a .limit) (a .n)
+          ∙ between-crowded (a .limit) _ (a .n) _ (d .first-token .result) (here d) (f .other) (c .before .before .if1 .left) (λ e. c .before .if2 .taken)
+          ∙ ap refusedAs (sym (c .crowded .ensures)),
+      tt,
+    )
+
+-- src/lib.rt:204:34
+crowded-requires-2 : tie.Need-crowded-requires-2
+crowded-requires-2 c κs = search needs
+
+-- src/lib.rt:204:9
+returns-3 : tie.Need-returns-3
+unfolding nextThen NextFurther
+returns-3 c =
+    let d = c .before .before .before .before .before .before in
+    let a = d .before .before .args in
+    let f = d .first-token .ensures in (
+      f .same (a .limit) (a .n)
+          ∙ between-crowded (a .limit) _ (a .n) _ (d .first-token .result) (here d) (f .other) (c .before .before .before .before .if1 .left)
+          (λ e. absurd (c .before .if3 .taken e))
+          ∙ ap refusedAs (sym (c .crowded2 .ensures)),
+      tt,
+    )
+
+-- src/lib.rt:207:9
+named-requires : tie.Need-named-requires
+named-requires c κs =
+    let r = word-at c in
+    omega (arith, r .wide)
+
+-- src/lib.rt:208:11
+statement-requires : tie.Need-statement-requires
+statement-requires c κs =
+    let d = c .before .before .before .before .before .before .before in
+    let p = d .before .before .pre in
+    (p .0, p .1, p .2, in-text _ (d .first-token .result) (c .named .ensures) (word-at (c .before)))
+
+-- src/lib.rt:209:34
+enum-known-form : tie.Need-enum-known-form
+enum-known-form c = search needs
+
+-- src/lib.rt:209:80
+add-behind : tie.Need-add-behind
+unfolding StatementFurther
+add-behind c =
+    let w = c .before .before .before in
+    let d = w .before .before .before .before .before .before .before .before in
+    omega (arith, c .before .before .before .before .before .before .before .before .if2 .left)
+
+-- src/lib.rt:209:52
+behind-requires : tie.Need-behind-requires
+behind-requires c κs = c .before .before .before .before .before .before .before .before .before .before .before .before .before .pre .0
+
+-- src/lib.rt:210:28
+enum-told : tie.Need-enum-told
+enum-told c = search needs
+
+-- src/lib.rt:211:28
+enum-known-r : tie.Need-enum-known-r
+enum-known-r c = search needs
+
+-- src/lib.rt:213:32
+enum-known-r-2 : tie.Need-enum-known-r-2
+enum-known-r-2 c = search needs
+
+-- src/lib.rt:191:1
+returns-4 : tie.Need-returns-4
+unfolding nextThen NextFurther statementThen StatementFurther EndedThen
+returns-4 c =
+    let w = c .before .before .before .before .before .before in
+    let m = w .before in
+    let d = m .before .before .before .before .before .before .before in
+    let a = d .before .before .args in
+    let s = now (a .text) in
+    let f = d .first-token .ensures in
+    let r = word-here m in
+    let e = opened-here m ∙ ap (oneThen (a .limit) (length s) (a .n)) (w .statement .ensures .0) in
+    let x = c .before .before .before .before .form .given in
+    let b = subst (EndedThen (a .limit) s (a .n + 1) (x .0 .1 .0 .at)) (c .enum-told .given .1) (c .before .before .behind .ensures (a .limit)) in
+    let g = subst (StatementFurther s (d .first-token .result .next .at)) (x .1) (w .statement .ensures .1) in (
+      f .same (a .limit) (a .n)
+          ∙ e
+          ∙ ap (λ (y : One). oneThen (a .limit) (length s) (a .n) y) (ap (statementThen s) (x .1))
+          ∙ ap (prepend (statementIn s (x .0 .0)))
+          (ap (λ (k : ℕ). readAt (a .limit) s k Where.ended (x .0 .1 .0 .at)) (sym (add-one (a .n)))
+          ∙ b
+          ∙ ap (λ (k : ℕ). readAt (a .limit) s k between (x .0 .1 .0 .at)) (add-one (a .n))
+          ),
+      (omega (arith, f .ahead, r .ahead, r .wide, g .0), g .1),
+    )
+
+-- src/lib.rt:191:1
+returns-5 : tie.Need-returns-5
+unfolding nextThen NextFurther statementThen EndedThen
+returns-5 c =
+    let w = c .before .before .before .before .before .before .before in
+    let m = w .before in
+    let d = m .before .before .before .before .before .before .before in
+    let a = d .before .before .args in
+    let s = now (a .text) in
+    let f = d .first-token .ensures in
+    let r = word-here m in
+    let e = opened-here m ∙ ap (oneThen (a .limit) (length s) (a .n)) (w .statement .ensures .0) in
+    let x = c .before .before .before .before .before .form .given in
+    let b = subst (EndedThen (a .limit) s (a .n + 1) (x .0 .1 .0 .at)) (c .before .r .given .1) (c .before .before .before .behind .ensures (a .limit)) in (
+      f .same (a .limit) (a .n)
+          ∙ e
+          ∙ ap (λ (y : One). oneThen (a .limit) (length s) (a .n) y) (ap (statementThen s) (x .1))
+          ∙ ap (prepend (statementIn s (x .0 .0)))
+          (ap (λ (k : ℕ). readAt (a .limit) s k Where.ended (x .0 .1 .0 .at)) (sym (add-one (a .n))) ∙ b),
+      tt,
+    )
+
+-- src/lib.rt:191:1
+returns-6 : tie.Need-returns-6
+unfolding nextThen NextFurther statementThen
+returns-6 c =
+    let w = c .before .before .before in
+    let m = w .before in
+    let d = m .before .before .before .before .before .before .before in
+    let a = d .before .before .args in
+    let s = now (a .text) in
+    let f = d .first-token .ensures in
+    let r = word-here m in
+    let e = opened-here m ∙ ap (oneThen (a .limit) (length s) (a .n)) (w .statement .ensures .0) in (
+      f .same (a .limit) (a .n) ∙ e ∙ ap (λ (y : One). oneThen (a .limit) (length s) (a .n) y) (ap (statementThen s) (c .before .r2 .given .1)),
+      tt,
+    )
+
+pub next-statement-spec : {M : Type 1} → statement M
+next-statement-spec =
+    tie.close
+    (tie.spec
+    first-token-requires
+    returns
+    crowded-requires
+    returns-2
+    crowded-requires-2
+    returns-3
+    named-requires
+    statement-requires
+    enum-known-form
+    add-behind
+    behind-requires
+    enum-told
+    enum-known-r
+    enum-known-r-2
+    returns-4
+    returns-5
+    returns-6)

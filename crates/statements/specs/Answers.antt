@@ -1,0 +1,74 @@
+-- What the answers of the functions that read statements mean, as answers of the definition of reading.
+use Prim.Native.Nat.{ℕ, suc, _+_, _<_, _≤_}
+use mathlib.Core.Bool.{cond}
+use mathlib.Core.List.{List, []}
+use mathlib.Core.Path.{_≡_}
+use lib.Dec.{eqb, leb}
+use lib.ListN.{length}
+use Rattle.tokens.specs.declared.Token as lexer
+use Rattle.tokens.specs.Next.{tokenAt}
+use Rattle.reading.specs.Statement.{Statement}
+use Rattle.reading.specs.Answer.{Answer, accepted, refused}
+use Rattle.reading.specs.Read.{Where, between, prepend, readFrom}
+use Rattle.reading.specs.One.{One, whole, halted}
+use Rattle.forms.specs.declared.Refusal.{Refusal}
+use Rattle.forms.specs.Items.{tokensFrom}
+use Rattle.forms.specs.Forms.{statementIn}
+use Rattle.statements.specs.declared.StatementRead.{StatementRead}
+use Rattle.statements.specs.declared.StatementRead.the-variants as statementRead
+use Rattle.statements.specs.declared.Ended.{Ended}
+use Rattle.statements.specs.declared.Ended.the-variants as ended
+use Rattle.statements.specs.declared.NextRead.{NextRead}
+use Rattle.statements.specs.declared.NextRead.the-variants as nextRead
+use Rattle.statements.specs.declared.CountRead.{CountRead}
+use Rattle.statements.specs.declared.CountRead.the-variants as countRead
+
+-- one statement, read to its `)`
+unfoldable pub statementThen : List ℕ → StatementRead → One
+statementThen s (statementRead.Statement f c) = whole (statementIn s f) (tokensFrom s (c .at))
+statementThen s (statementRead.Refused r) = halted (r .number) (r .place)
+
+unfoldable pub StatementFurther : List ℕ → ℕ → StatementRead → Type 0
+StatementFurther s o (statementRead.Statement f c) = (o < c .at) × (c .at ≤ length s)
+StatementFurther s o (statementRead.Refused r) = Unit {0}
+
+-- the statements of a text from an offset on, after so many
+abbrev pub readAt : ℕ → List ℕ → ℕ → Where → ℕ → Answer (List Statement)
+readAt limit s n w o = readFrom limit (length s) n w (tokensFrom s o)
+
+-- the first token that is no separator
+pub record FirstToken (s : List ℕ) (o : ℕ) (t : lexer.Token) : Type 0 where
+  pub place : ℕ
+  pub stands : t ≡ tokenAt s place
+  pub same : (limit n : ℕ) → readAt limit s n between o ≡ readAt limit s n between place
+  pub other : t .kind ≡ 59 → ⊥
+  pub ahead : o ≤ place
+
+-- a token that is not allowed between statements, after so many of them
+abbrev pub crowdedBy : lexer.Token → ℕ → Refusal
+crowdedBy t n = record { number = cond (eqb (t .kind) 2) 2 (cond (leb 256 n) 11 3); place = t .start }
+
+-- what stands behind a statement
+unfoldable pub EndedThen : ℕ → List ℕ → ℕ → ℕ → Ended → Type 0
+EndedThen limit s n o ended.Fine = readAt limit s n Where.ended o ≡ readAt limit s n between o
+EndedThen limit s n o (ended.Refused r) = readAt limit s n Where.ended o ≡ refused (r .number) (r .place)
+
+-- the next statement with what follows it, or the text's end
+unfoldable pub nextThen : ℕ → List ℕ → ℕ → NextRead → Answer (List Statement)
+nextThen limit s n (nextRead.Statement f c) = prepend (statementIn s f) (readAt limit s (suc n) between (c .at))
+nextThen limit s n nextRead.End = accepted []
+nextThen limit s n (nextRead.Refused r) = refused (r .number) (r .place)
+
+unfoldable pub NextFurther : List ℕ → ℕ → NextRead → Type 0
+NextFurther s o (nextRead.Statement f c) = (o < c .at) × (c .at ≤ length s)
+NextFurther s o nextRead.End = Unit {0}
+NextFurther s o (nextRead.Refused r) = Unit {0}
+
+-- how many statements there are, after so many
+abbrev pub counted : ℕ → Answer (List Statement) → Answer ℕ
+counted n (accepted ss) = accepted (n + length ss)
+counted n (refused k p) = refused k p
+
+unfoldable pub countAs : CountRead → Answer ℕ
+countAs (countRead.Count n) = accepted n
+countAs (countRead.Refused r) = refused (r .number) (r .place)

@@ -1,0 +1,277 @@
+// The statements of a text, one after the other.
+ghost use mathlib.Core.Path.{_≡_};
+ghost use mathlib.Core.List.{List};
+ghost use Prim.Native.Nat.{ℕ, _≤_, _<_};
+ghost use lib.ListN.{length};
+ghost use Rattle.text.specs.Bytes.{bytes};
+ghost use Rattle.tokens.specs.Token.{word};
+ghost use Rattle.tokens.specs.Class.{classTable};
+ghost use Rattle.tokens.specs.Next.{tokenAt};
+ghost use Rattle.labels.specs.Word.{sameWord};
+ghost use Rattle.labels.specs.Table.{labelTable, keywordTable};
+ghost use Rattle.reading.specs.Syntax.{keyword, letKeyword, opened};
+ghost use Rattle.reading.specs.Read.{between, readText};
+ghost use Rattle.forms.specs.Items.{nameIn};
+ghost use Rattle.forms.specs.Fits.{InText};
+ghost use Rattle.arguments.specs.Answers.{readIn, stepIn};
+ghost use Rattle.statements.specs.Answers.{statementThen, StatementFurther, FirstToken, EndedThen, crowdedBy, readAt, nextThen, NextFurther, counted, countAs};
+use calls::FeatureRead;
+use calls::LetRead;
+use checks::ItemsRead;
+use features::Built;
+use forms::Name;
+use forms::Refusal;
+use forms::Statement;
+use tokens::Cursor;
+use tokens::Scanned;
+use tokens::Token;
+
+// A statement with the cursor behind it, or a refusal.
+pub enum StatementRead {
+    Statement(Statement, Cursor),
+    Refused(Refusal),
+}
+
+// Whether a statement may end where it does.
+pub enum Ended {
+    Fine,
+    Refused(Refusal),
+}
+
+// The next statement with the cursor behind it, the text's end, or a refusal.
+pub enum NextRead {
+    Statement(Statement, Cursor),
+    End,
+    Refused(Refusal),
+}
+
+// How many statements a text has, or why it is refused.
+pub enum CountRead {
+    Count(usize),
+    Refused(Refusal),
+}
+
+// Whether a keyword is LET, ignoring case.
+fn is_let(text: &[u8], name: Name) -> bool
+    requires { ⌜ InText (now text) name ⌝ }
+    ensures { λ r. ⌜ r ≡ sameWord (nameIn (now (text .entry)) name .spelling) (bytes "LET") ⌝ }
+{
+    let start = name.offset;
+    let end = start + name.length;
+    labels::same_word(&text[start..end], b"LET")
+}
+
+// A LET behind its keyword.
+fn let_statement(text: &[u8], classes: &[u8; 256], at: usize, limit: u32) -> StatementRead
+    requires { ⌜ now classes ≡ classTable ⌝ }
+    ensures { λ r. ⌜ readIn limit (now (text .entry)) letKeyword at ≡ statementThen (now (text .entry)) r ⌝ }
+    ensures { λ r. ⌜ StatementFurther (now (text .entry)) at r ⌝ }
+{
+    match calls::read_let(text, classes, at, limit) {
+        LetRead::Let { name, arg, next } => match checks::items_of(arg) {
+            ItemsRead::Items(values) => StatementRead::Statement(
+                Statement::Let { name, values },
+                next,
+            ),
+            ItemsRead::Refused(r) => StatementRead::Refused(r),
+        },
+        LetRead::Refused(r) => StatementRead::Refused(r),
+    }
+}
+
+// A feature's statement behind its keyword.
+fn feature_statement(
+    text: &[u8],
+    classes: &[u8; 256],
+    labels: &[u8; 608],
+    keys: &[u8; 240],
+    name: Name,
+    at: usize,
+    limit: u32,
+) -> StatementRead
+    requires { ⌜ (now classes ≡ classTable) × (now labels ≡ labelTable) × (now keys ≡ keywordTable) × InText (now text) name ⌝ }
+    ensures { λ r. ⌜ readIn limit (now (text .entry)) (keyword (nameIn (now (text .entry)) name)) at ≡ statementThen (now (text .entry)) r ⌝ }
+    ensures { λ r. ⌜ StatementFurther (now (text .entry)) at r ⌝ }
+{
+    match calls::read_feature(text, classes, at, limit) {
+        FeatureRead::Call {
+            optional,
+            args,
+            next,
+        } => match features::build(text, classes, labels, keys, name, args, optional, limit) {
+            Built::Feature(feature) => StatementRead::Statement(Statement::Feature(feature), next),
+            Built::Refused(r) => StatementRead::Refused(r),
+        },
+        FeatureRead::Refused(r) => StatementRead::Refused(r),
+    }
+}
+
+// A statement behind its first word.
+fn statement(
+    text: &[u8],
+    classes: &[u8; 256],
+    labels: &[u8; 608],
+    keys: &[u8; 240],
+    name: Name,
+    at: usize,
+    limit: u32,
+) -> StatementRead
+    requires { ⌜ (now classes ≡ classTable) × (now labels ≡ labelTable) × (now keys ≡ keywordTable) × InText (now text) name ⌝ }
+    ensures { λ r. ⌜
+        stepIn limit (now (text .entry)) (opened (name .offset) (word (nameIn (now (text .entry)) name .spelling))) at
+        ≡ statementThen (now (text .entry)) r
+        ⌝ }
+    ensures { λ r. ⌜ StatementFurther (now (text .entry)) at r ⌝ }
+{
+    if is_let(text, name) {
+        return let_statement(text, classes, at, limit);
+    }
+    feature_statement(text, classes, labels, keys, name, at, limit)
+}
+
+// The first token, from `at` on, that is no separator.
+fn first_token(text: &[u8], classes: &[u8; 256], at: usize) -> Token
+    requires { ⌜ now classes ≡ classTable ⌝ }
+    ensures { λ r. ⌜ FirstToken (now (text .entry)) at r ⌝ }
+{
+    let mut cur = at;
+    loop {
+        let c = Cursor { at: cur };
+        let token = c.token(text, classes);
+        if token.kind != b';' {
+            return token;
+        }
+        let next = token.next;
+        cur = next.at;
+    }
+}
+
+// What stands behind the statement that is the `n`th: a separator, or the text's end.
+fn behind(text: &[u8], classes: &[u8; 256], at: usize, n: usize) -> Ended
+    requires { ⌜ now classes ≡ classTable ⌝ }
+    ensures { λ r. ⌜ ((limit : ℕ) → EndedThen limit (now (text .entry)) n at r) ⌝ }
+{
+    let c = Cursor { at };
+    let token = c.token(text, classes);
+    if token.kind == b';' {
+        return Ended::Fine;
+    }
+    if token.kind == 3 {
+        return Ended::Fine;
+    }
+    Ended::Refused(crowded(token, n))
+}
+
+// A token that is not allowed between statements: after 256 of them it is refused by 11.
+fn crowded(token: Token, n: usize) -> Refusal
+    ensures { λ r. ⌜ r ≡ crowdedBy token n ⌝ }
+{
+    if token.kind == 2 {
+        return Refusal {
+            number: 2,
+            place: token.start,
+        };
+    }
+    if 256 <= n {
+        return Refusal {
+            number: 11,
+            place: token.start,
+        };
+    }
+    Refusal {
+        number: 3,
+        place: token.start,
+    }
+}
+
+// The next statement, where `n` were read before.
+fn next_statement(
+    text: &[u8],
+    classes: &[u8; 256],
+    labels: &[u8; 608],
+    keys: &[u8; 240],
+    at: usize,
+    n: usize,
+    limit: u32,
+) -> NextRead
+    requires { ⌜ (now classes ≡ classTable) × (now labels ≡ labelTable) × (now keys ≡ keywordTable) × (n ≤ at) ⌝ }
+    ensures { λ r. ⌜ readAt limit (now (text .entry)) n between at ≡ nextThen limit (now (text .entry)) n r ⌝ }
+    ensures { λ r. ⌜ NextFurther (now (text .entry)) at r ⌝ }
+{
+    let token = first_token(text, classes, at);
+    if token.kind == 3 {
+        return NextRead::End;
+    }
+    if 256 <= n {
+        return NextRead::Refused(crowded(token, n));
+    }
+    if token.kind != 0 {
+        return NextRead::Refused(crowded(token, n));
+    }
+    let next = token.next;
+    let name = arguments::named(token);
+    match statement(text, classes, labels, keys, name, next.at, limit) {
+        StatementRead::Statement(form, c) => match behind(text, classes, c.at, n + 1) {
+            Ended::Fine => NextRead::Statement(form, c),
+            Ended::Refused(r) => NextRead::Refused(r),
+        },
+        StatementRead::Refused(r) => NextRead::Refused(r),
+    }
+}
+
+// The number of statements, where the text's bytes are in order.
+fn count_from(
+    text: &[u8],
+    classes: &[u8; 256],
+    labels: &[u8; 608],
+    keys: &[u8; 240],
+    limit: u32,
+) -> CountRead
+    requires { ⌜ (now classes ≡ classTable) × (now labels ≡ labelTable) × (now keys ≡ keywordTable) ⌝ }
+    ensures { λ r. ⌜ countAs r ≡ counted 0 (readAt limit (now (text .entry)) 0 between 0) ⌝ }
+{
+    let mut n = 0;
+    let mut cur = 0;
+    loop {
+        match next_statement(text, classes, labels, keys, cur, n, limit) {
+            NextRead::Statement(_, c) => {
+                cur = c.at;
+                n += 1;
+            }
+            NextRead::End => return CountRead::Count(n),
+            NextRead::Refused(r) => return CountRead::Refused(r),
+        }
+    }
+}
+
+// The number of statements of a text, or why it is refused. A refusal is looked at again: a byte that starts no token comes before it.
+pub fn count_under(text: &[u8], limit: u32) -> CountRead
+    ensures { λ r. ⌜ countAs r ≡ counted 0 (readText limit (now (text .entry))) ⌝ }
+{
+    if 16384 < text.len() {
+        return CountRead::Refused(Refusal {
+            number: 1,
+            place: 0,
+        });
+    }
+    let classes = tokens::CLASSES;
+    let labels = labels::LABELS;
+    let keys = labels::KEYWORDS;
+    match count_from(text, &classes, &labels, &keys, limit) {
+        CountRead::Count(n) => CountRead::Count(n),
+        CountRead::Refused(r) => match tokens::scan(text, &classes) {
+            Scanned::Stray(at) => CountRead::Refused(Refusal {
+                number: 2,
+                place: at,
+            }),
+            Scanned::Whole => CountRead::Refused(r),
+        },
+    }
+}
+
+// The number of statements of a text.
+pub fn count(text: &[u8]) -> CountRead
+    ensures { λ r. ⌜ countAs r ≡ counted 0 (readText 64 (now (text .entry))) ⌝ }
+{
+    count_under(text, 64)
+}
