@@ -1,4 +1,4 @@
-// Answers request lines from standard input, one line each: `tokens HEX`. A line that is no request is answered too, and stops nothing.
+// Answers request lines from standard input, one line each: `tokens HEX` and `count HEX`. A line that is no request is answered too, and stops nothing.
 mod input;
 mod output;
 mod request;

@@ -1,5 +1,6 @@
 // One request and its answer.
 use crate::output;
+use statements::CountRead;
 use tokens::Cursor;
 use tokens::Lexed;
 use tokens::Scanned;
@@ -11,6 +12,7 @@ ghost use Rattle.tokens.specs.Class.{classTable};
 // What a line asks about its text.
 enum Asked {
     Tokens,
+    Count,
 }
 
 // A text from its hex digits, or that there is none.
@@ -180,9 +182,20 @@ fn answer_tokens(text: &[u8], out: &mut [u8], len: usize) -> usize {
     }
 }
 
+fn answer_count(text: &[u8], out: &mut [u8], len: usize) -> usize {
+    match statements::count(text) {
+        CountRead::Count(count) => {
+            let n = output::put_all(out, len, b"ok");
+            output::put_number(out, n, count)
+        }
+        CountRead::Refused(r) => refused(out, len, r.number as usize, r.place),
+    }
+}
+
 fn answer_text(asked: Asked, text: &[u8], out: &mut [u8], len: usize) -> usize {
     match asked {
         Asked::Tokens => answer_tokens(text, out, len),
+        Asked::Count => answer_count(text, out, len),
     }
 }
 
@@ -208,6 +221,9 @@ fn answer_hex(
 fn answer_words(line: &[u8], text: &mut [u8], out: &mut [u8], len: usize) -> usize {
     if begins(line, b"tokens") {
         return answer_hex(Asked::Tokens, line, 7, text, out, len);
+    }
+    if begins(line, b"count") {
+        return answer_hex(Asked::Count, line, 6, text, out, len);
     }
     malformed(out, len)
 }
