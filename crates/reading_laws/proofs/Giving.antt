@@ -2,13 +2,13 @@
 -- Assumes nothing.
 use Prim.Native.Nat.{ℕ}
 use mathlib.Core.Path.{_≡_, refl}
-use mathlib.Core.Bool.{Bool, true, false, cond}
+use mathlib.Core.Bool.{Bool, true, false}
 use mathlib.Core.List.{List, [], _∷_}
 use mathlib.Core.Option.{Option, some, none}
 use Rattle.token_laws.specs.Shaped.{all}
 use Rattle.token_laws.proofs.Tests.{and-left, and-right}
 use Rattle.reading.specs.Statement.{Name}
-use Rattle.reading.specs.Answer.{Answer, accepted, refused, _>>=_}
+use Rattle.reading.specs.Answer.{Answer, _>>=_}
 use Rattle.reading.specs.Argument.{Arg}
 use Rattle.reading.specs.Feature.{one, oneOrTwo, two, threeOrFour, mandatory, optionally}
 use Rattle.reading_laws.specs.WellFormed.{optional, wellArg, Gives, given, nothing}

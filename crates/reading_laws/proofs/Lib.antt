@@ -13,3 +13,4 @@ pub mod WellArguments
 pub mod WellFeatures
 pub mod WellSteps
 pub mod WellRead
+pub mod WellExamples

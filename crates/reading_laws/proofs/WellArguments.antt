@@ -1,18 +1,17 @@
 -- What a well formed argument is taken for is well formed.
 -- Assumes nothing.
-use Prim.Native.Nat.{ℕ, _≤_, _<_}
+use Prim.Native.Nat.{ℕ, _≤_}
 use native.Mathlib.Omega.{arith}
 use mathlib.Core.Path.{_≡_, refl}
-use mathlib.Core.Bool.{Bool, true, false, cond, _&&_, _||_, or-true}
+use mathlib.Core.Bool.{Bool, true, false, cond, _&&_, or-true}
 use mathlib.Core.List.{List, [], _∷_, map}
 use mathlib.Core.Option.{Option, some, none}
 use borrow.Author.Tests.{leb-true, ltb-false, lt-ltb, le-leb}
 use lib.Dec.{leb, ltb}
 use lib.ListN.{length, length-map}
-use Rattle.tokens.specs.Spelling.{isWord, isNumber}
 use Rattle.token_laws.specs.Shaped.{all}
 use Rattle.token_laws.proofs.Tests.{and-left, and-right}
-use Rattle.counts.specs.Count.{whole, value, isCount, countOf}
+use Rattle.counts.specs.Count.{whole, value, countOf}
 use Rattle.counts.specs.declared.Counted.the-variants.{Count, Refused}
 use Rattle.labels.specs.declared.Family.{Family}
 use Rattle.labels.specs.Word.{find}

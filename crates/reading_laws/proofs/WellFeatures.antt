@@ -2,7 +2,7 @@
 -- Assumes nothing.
 use Prim.Native.Nat.{ℕ}
 use mathlib.Core.Path.{_≡_, refl}
-use mathlib.Core.Bool.{Bool, true, false, cond, _&&_}
+use mathlib.Core.Bool.{Bool, true, false, cond}
 use mathlib.Core.List.{List}
 use mathlib.Core.Option.{Option, some, none}
 use Rattle.token_laws.specs.Shaped.{all}
@@ -37,7 +37,6 @@ use Rattle.reading.specs.Statement.{
   Peripherals,
   Transits,
   Lagtime,
-  Covariate,
   Allometry,
   DirectEffect,
   EffectComp,

@@ -3,7 +3,7 @@
 use Prim.Native.Nat.{ℕ}
 use native.Mathlib.Omega.{arith}
 use mathlib.Core.Path.{_≡_, refl, subst}
-use mathlib.Core.Bool.{Bool, true, false, cond, _&&_}
+use mathlib.Core.Bool.{Bool, true, false, cond}
 use mathlib.Core.List.{List, [], _∷_, _++_}
 use borrow.Author.Tests.{ltb-true, le-leb}
 use lib.Dec.{leb, ltb}
@@ -16,8 +16,7 @@ use Rattle.token_laws.proofs.Tests.{and-left, and-right}
 use Rattle.labels.specs.Word.{sameWord}
 use Rattle.reading.specs.Statement.{Name, Kind, aWord, aNumber, Item, Feature, Statement}
 use Rattle.reading.specs.Answer.{Answer}
-use Rattle.reading.specs.Argument.{Arg, rangeOf, itemsOf}
-use Rattle.reading.specs.Feature.{buildFeature}
+use Rattle.reading.specs.Argument.{Arg}
 use Rattle.reading.specs.Syntax.{
   Call,
   featureCall,
