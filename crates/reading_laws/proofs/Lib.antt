@@ -7,3 +7,10 @@ pub mod Accepting
 pub mod Scanning
 pub mod Appending
 pub mod Joining
+pub mod Giving
+pub mod Places
+pub mod WellArguments
+pub mod WellFeatures
+pub mod WellSteps
+pub mod WellRead
+pub mod WellExamples
