@@ -1,21 +1,37 @@
 -- What the answers of the functions that build a feature mean, as answers of the definition of reading.
 use Prim.Native.Nat.{ℕ}
-use mathlib.Core.Bool.{Bool}
+use mathlib.Core.Bool.{Bool, cond}
 use mathlib.Core.List.{List}
-use mathlib.Core.Option.{Option}
+use mathlib.Core.Option.{Option, some, none}
+use mathlib.Core.Path.{_≡_}
+use lib.Dec.{eqb}
+use lib.ListN.{getElem?}
 use Rattle.labels.specs.declared.Family.{Family}
+use Rattle.labels.specs.declared.Family.the-variants.{
+  AbsorptionMode,
+  EliminationMode,
+  LagtimeMode,
+  CovariateEffect,
+  PdMode,
+  MetaboliteMode,
+  VariabilityEffect,
+}
+use Rattle.reading.specs.Statement as statement
 use Rattle.reading.specs.Statement.{Name, Modes, TransitCounts, Operand, Feature}
 use Rattle.reading.specs.Answer.{Answer, accepted, refused, _>>=_}
 use Rattle.reading.specs.Argument.{Arg, modesOf, operandOf}
-use Rattle.reading.specs.Feature.{one, two, mandatory}
-use Rattle.labels.specs.declared.Family.the-variants.{VariabilityEffect}
-use Rattle.forms.specs.declared.Refusal.{Refusal}
-use Rattle.forms.specs.Forms.{modesIn, transitsIn, operandIn, someModesIn, featureIn}
+use Rattle.reading.specs.Feature.{Keyword, features, two, explicit, featureOf, knownFeature}
+use Rattle.forms.specs.declared.Args.{Args}
+use Rattle.forms.specs.Forms.{argIn, argsIn, modesIn, transitsIn, operandIn, someModesIn, someNameIn, featureIn}
 use Rattle.checks.specs.Answers.{refusedBy}
+use Rattle.features.specs.declared.Alone.{Alone}
+use Rattle.features.specs.declared.Alone.the-variants.{Absorption, Elimination, Lagtime, DirectEffect, EffectComp, Metabolite}
 use Rattle.features.specs.declared.Built.{Built}
 use Rattle.features.specs.declared.Built.the-variants as built
 use Rattle.features.specs.declared.SomeModesRead.{SomeModesRead}
 use Rattle.features.specs.declared.SomeModesRead.the-variants as someModesRead
+use Rattle.features.specs.declared.SomeNameRead.{SomeNameRead}
+use Rattle.features.specs.declared.SomeNameRead.the-variants as someNameRead
 use Rattle.features.specs.declared.TransitsRead.{TransitsRead}
 use Rattle.features.specs.declared.TransitsRead.the-variants as transitsRead
 use Rattle.features.specs.declared.EtaRead.{EtaRead}
@@ -28,6 +44,10 @@ builtAs s (built.Refused r) = refusedBy r
 unfoldable pub someModesAs : List ℕ → Family → SomeModesRead → Answer (Option Modes)
 someModesAs s f (someModesRead.Modes m) = accepted (someModesIn s f m)
 someModesAs s f (someModesRead.Refused r) = refusedBy r
+
+unfoldable pub someNameAs : List ℕ → SomeNameRead → Answer (Option Name)
+someNameAs s (someNameRead.Name n) = accepted (someNameIn s n)
+someNameAs s (someNameRead.Refused r) = refusedBy r
 
 unfoldable pub transitsAs : List ℕ → TransitsRead → Answer TransitCounts
 transitsAs s (transitsRead.Counts c) = accepted (transitsIn s c)
@@ -49,9 +69,39 @@ etaOf k args =
       es ← modesOf VariabilityEffect e
       accepted (record { parameters = ps; effects = es })
 
--- the modes of a feature of one argument and no `?`
-abbrev pub modesAlone : Family → Name → Bool → List Arg → Answer Modes
-modesAlone f k m args =
-    one k args λ a. do
-      ms ← modesOf f a
-      mandatory k m ms
+-- the effects of COVARIATE, which are not the mandatory `*`
+abbrev pub effectsOf : Bool → Arg → Answer Modes
+effectsOf m a = modesOf CovariateEffect a >>= explicit m a
+
+-- the second of one or two arguments, and the fourth of three or four
+unfoldable pub secondIn : List ℕ → Args → Option Arg
+secondIn s xs = cond (eqb (xs .count) 1) none (some (argIn s (xs .second)))
+
+unfoldable pub fourthIn : List ℕ → Args → Option Arg
+fourthIn s xs = cond (eqb (xs .count) 3) none (some (argIn s (xs .fourth)))
+
+-- a feature of one argument, which is modes of a family
+abbrev pub familyOf : Alone → Family
+familyOf Absorption = AbsorptionMode
+familyOf Elimination = EliminationMode
+familyOf Lagtime = LagtimeMode
+familyOf DirectEffect = PdMode
+familyOf EffectComp = PdMode
+familyOf Metabolite = MetaboliteMode
+
+abbrev pub featureWith : Alone → Modes → Feature
+featureWith Absorption m = statement.Absorption m
+featureWith Elimination m = statement.Elimination m
+featureWith Lagtime m = statement.Lagtime m
+featureWith DirectEffect m = statement.DirectEffect m
+featureWith EffectComp m = statement.EffectComp m
+featureWith Metabolite m = statement.Metabolite m
+
+-- What is built is the feature of a keyword at an offset. Of the keyword as the text writes it, only the offset matters.
+abbrev pub Builds : List ℕ → ℕ → Keyword → Bool → ℕ → Args → Built → Type 0
+Builds s limit w m o xs r = (k : Name) → k .place ≡ o → builtAs s r ≡ featureOf limit w k m (argsIn s xs)
+
+-- likewise, the keyword by its place in the table
+abbrev pub BuildsKnown : List ℕ → ℕ → ℕ → Bool → ℕ → Args → Built → Type 0
+BuildsKnown s limit i m o xs r =
+    (k : Name) → k .place ≡ o → builtAs s r ≡ knownFeature limit (getElem? features i) k m (argsIn s xs)
