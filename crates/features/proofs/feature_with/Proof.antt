@@ -1,56 +1,50 @@
+-- `features::feature_with` meets its contract. Assumes nothing.
+use Rattle.forms.specs.Forms.{featureIn}
 use borrow.Author.Needs.{needs}
 use Rattle.features.proofs.feature_with.Statement.{statement}
 use Rattle.features.proofs.feature_with.Tie as tie
-use Rattle.features.proofs.feature_with.Reads as reads
-use Rattle.features.proofs.feature_with.Lts as lts
 
--- src/lib.rt:117:30
 enum-told : tie.Need-enum-told
 enum-told c = search needs
 
--- src/lib.rt:118:31
 enum-told-2 : tie.Need-enum-told-2
 enum-told-2 c = search needs
 
--- src/lib.rt:119:27
 enum-told-3 : tie.Need-enum-told-3
 enum-told-3 c = search needs
 
--- src/lib.rt:120:32
 enum-told-4 : tie.Need-enum-told-4
 enum-told-4 c = search needs
 
--- src/lib.rt:121:30
 enum-told-5 : tie.Need-enum-told-5
 enum-told-5 c = search needs
 
--- src/lib.rt:122:30
 enum-told-6 : tie.Need-enum-told-6
 enum-told-6 c = search needs
 
--- src/lib.rt:113:1
 returns : tie.Need-returns
-returns c = ?
+unfolding featureIn
+returns c = λ s. rw (c .enum-told .given .1)
 
--- src/lib.rt:113:1
 returns-2 : tie.Need-returns-2
-returns-2 c = ?
+unfolding featureIn
+returns-2 c = λ s. rw (c .enum-told2 .given .1)
 
--- src/lib.rt:113:1
 returns-3 : tie.Need-returns-3
-returns-3 c = ?
+unfolding featureIn
+returns-3 c = λ s. rw (c .enum-told3 .given .1)
 
--- src/lib.rt:113:1
 returns-4 : tie.Need-returns-4
-returns-4 c = ?
+unfolding featureIn
+returns-4 c = λ s. rw (c .enum-told4 .given .1)
 
--- src/lib.rt:113:1
 returns-5 : tie.Need-returns-5
-returns-5 c = ?
+unfolding featureIn
+returns-5 c = λ s. rw (c .enum-told5 .given .1)
 
--- src/lib.rt:113:1
 returns-6 : tie.Need-returns-6
-returns-6 c = ?
+unfolding featureIn
+returns-6 c = λ s. rw (c .enum-told6 .given .1)
 
 pub feature-with-spec : {M : Type 1} → statement M
 feature-with-spec =

@@ -1,15 +1,15 @@
+-- `features::mandatory` meets its contract. Assumes nothing.
+use Rattle.features.specs.Answers.{builtAs}
 use Rattle.features.proofs.mandatory.Statement.{statement}
 use Rattle.features.proofs.mandatory.Tie as tie
-use Rattle.features.proofs.mandatory.Reads as reads
-use Rattle.features.proofs.mandatory.Lts as lts
 
--- src/lib.rt:91:9
 returns : tie.Need-returns
-returns c = ?
+unfolding builtAs
+returns c = λ s k e. rw (c .if1 .taken, e)
 
--- src/lib.rt:87:1
 returns-2 : tie.Need-returns-2
-returns-2 c = ?
+unfolding builtAs
+returns-2 c = λ s k e. rw (c .if1 .left)
 
 pub mandatory-spec : {M : Type 1} → statement M
 mandatory-spec = tie.close (tie.spec returns returns-2)

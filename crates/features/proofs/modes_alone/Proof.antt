@@ -1,53 +1,55 @@
+-- `features::modes_alone` meets its contract. Assumes nothing.
+use mathlib.Core.Path.{_∙_}
+use denote.Ref.{now}
+use Rattle.checks.specs.Answers.{modesAs}
+use Rattle.features.specs.Answers.{builtAs}
+use Rattle.features.proofs.Arity.{one-is, one-not}
 use borrow.Author.Needs.{needs}
 use Rattle.features.proofs.modes_alone.Statement.{statement}
 use Rattle.features.proofs.modes_alone.Tie as tie
-use Rattle.features.proofs.modes_alone.Reads as reads
-use Rattle.features.proofs.modes_alone.Lts as lts
-use Rattle.checks.proofs.modes_of.Reads as modes-of-reads
-use Rattle.features.proofs.family_of.Reads as family-of-reads
-use Rattle.features.proofs.feature_with.Reads as feature-with-reads
-use Rattle.features.proofs.mandatory.Reads as mandatory-reads
-use Rattle.features.proofs.wrong_number.Reads as wrong-number-reads
 
--- src/lib.rt:132:31
 wrong-number-requires : tie.Need-wrong-number-requires
 wrong-number-requires c κs = search needs
 
--- src/lib.rt:132:9
 returns : tie.Need-returns
-returns c = ?
+unfolding builtAs
+returns c = λ k e. rw (c .wrong-number .ensures, one-not (c .before .before .before .before .args .args) (c .before .if1 .taken), e)
 
--- src/lib.rt:135:51
 family-of-requires : tie.Need-family-of-requires
 family-of-requires c κs = search needs
 
--- src/lib.rt:135:11
 modes-of-requires : tie.Need-modes-of-requires
 modes-of-requires c κs = search needs
 
--- src/lib.rt:136:26
 enum-known-modes : tie.Need-enum-known-modes
 enum-known-modes c = search needs
 
--- src/lib.rt:136:46
 feature-with-requires : tie.Need-feature-with-requires
 feature-with-requires c κs = search needs
 
--- src/lib.rt:136:36
 mandatory-requires : tie.Need-mandatory-requires
 mandatory-requires c κs = search needs
 
--- src/lib.rt:137:28
 enum-known-r : tie.Need-enum-known-r
 enum-known-r c = search needs
 
--- src/lib.rt:127:1
 returns-2 : tie.Need-returns-2
-returns-2 c = ?
+unfolding modesAs
+returns-2 c = λ k e.
+    let d = c .before .before .before in
+    let g = d .before .before in
+    let a = g .before .before .before .before .before .args in
+    let h = rw (g .before .family-of .ensures) at (g .modes-of .ensures) in
+    rw (one-is (a .args) (g .before .before .if1 .left), ← h, d .modes .given .1, ← (c .before .feature-with .ensures (now (a .text))))
+    (c .mandatory .ensures (now (a .text)) k e)
 
--- src/lib.rt:127:1
 returns-3 : tie.Need-returns-3
-returns-3 c = ?
+unfolding builtAs modesAs
+returns-3 c = λ k e.
+    let d = c .before in
+    let g = d .before .before in
+    let h = rw (g .before .family-of .ensures) at (g .modes-of .ensures) in
+    rw (one-is (g .before .before .before .before .before .args .args) (g .before .before .if1 .left), ← h, d .r .given .1)
 
 pub modes-alone-spec : {M : Type 1} → statement M
 modes-alone-spec =

@@ -1,33 +1,34 @@
+-- `features::second_modes` meets its contract. Assumes nothing.
+use Rattle.checks.specs.Answers.{modesAs}
+use Rattle.forms.specs.Forms.{someModesIn}
+use Rattle.features.specs.Answers.{someModesAs}
+use Rattle.features.proofs.Arity.{second-none, second-some}
 use borrow.Author.Needs.{needs}
 use Rattle.features.proofs.second_modes.Statement.{statement}
 use Rattle.features.proofs.second_modes.Tie as tie
-use Rattle.features.proofs.second_modes.Reads as reads
-use Rattle.features.proofs.second_modes.Lts as lts
-use Rattle.checks.proofs.modes_of.Reads as modes-of-reads
 
--- src/lib.rt:147:9
 returns : tie.Need-returns
-returns c = ?
+unfolding someModesAs someModesIn
+returns c = rw (second-none (c .before .before .before .args .args) (c .if1 .taken))
 
--- src/lib.rt:150:11
 modes-of-requires : tie.Need-modes-of-requires
 modes-of-requires c κs = search needs
 
--- src/lib.rt:151:26
 enum-known-modes : tie.Need-enum-known-modes
 enum-known-modes c = search needs
 
--- src/lib.rt:152:28
 enum-known-r : tie.Need-enum-known-r
 enum-known-r c = search needs
 
--- src/lib.rt:142:1
 returns-2 : tie.Need-returns-2
-returns-2 c = ?
+unfolding someModesAs someModesIn modesAs
+returns-2 c = let d = c .before .before .before in
+    rw (second-some (d .before .before .before .before .args .args) (d .before .if1 .left), ← (d .modes-of .ensures), c .before .modes .given .1)
 
--- src/lib.rt:142:1
 returns-3 : tie.Need-returns-3
-returns-3 c = ?
+unfolding someModesAs modesAs
+returns-3 c = let d = c .before .before .before in
+    rw (second-some (d .before .before .before .before .args .args) (d .before .if1 .left), ← (d .modes-of .ensures), c .before .r .given .1)
 
 pub second-modes-spec : {M : Type 1} → statement M
 second-modes-spec =
