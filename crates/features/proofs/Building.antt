@@ -109,6 +109,9 @@ past-end [] n h = refl
 past-end (a ∷ l) zero h = absurd (omega arith)
 past-end (a ∷ l) (suc n) h = past-end l n (le-of-suc-le-suc h)
 
+beyond : {n : ℕ} (m : ℕ) → m ≤ n → (n ≡ m → ⊥) → suc m ≤ n
+beyond m h k = omega arith
+
 -- no feature's place
 pub place-none :
     (n : ℕ)
@@ -121,4 +124,5 @@ pub place-none :
     → (n ≡ 12 → ⊥)
     → (n ≡ 13 → ⊥)
     → getElem? features n ≡ none
-place-none n h a b c d e f g = past-end features n (omega arith)
+place-none n h a b c d e f g =
+    past-end features n (beyond 13 (beyond 12 (beyond 11 (beyond 10 (beyond 9 (beyond 8 (beyond 7 h a) b) c) d) e) f) g)

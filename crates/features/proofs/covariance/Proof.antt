@@ -1,55 +1,74 @@
+-- `features::covariance` meets its contract. Assumes nothing.
+use denote.Ref.{now}
+use Rattle.reading.specs.Feature.{featureOf}
+use Rattle.forms.specs.Forms.{featureIn}
+use Rattle.checks.specs.Answers.{modesAs, operandAs}
+use Rattle.features.specs.Answers.{builtAs}
+use Rattle.features.proofs.Arity.{two-is, two-not}
 use borrow.Author.Needs.{needs}
 use Rattle.features.proofs.covariance.Statement.{statement}
 use Rattle.features.proofs.covariance.Tie as tie
-use Rattle.features.proofs.covariance.Reads as reads
-use Rattle.features.proofs.covariance.Lts as lts
-use Rattle.checks.proofs.modes_of.Reads as modes-of-reads
-use Rattle.checks.proofs.operand_of.Reads as operand-of-reads
-use Rattle.features.proofs.wrong_number.Reads as wrong-number-reads
 
--- src/lib.rt:378:31
 wrong-number-requires : tie.Need-wrong-number-requires
 wrong-number-requires c κs = search needs
 
--- src/lib.rt:378:9
 returns : tie.Need-returns
-returns c = ?
+unfolding builtAs featureOf
+returns c = λ limit k e. rw (c .wrong-number .ensures, two-not (c .before .before .before .before .args .args) (c .before .if1 .taken), e)
 
--- src/lib.rt:382:11
 modes-of-requires : tie.Need-modes-of-requires
 modes-of-requires c κs = search needs
 
--- src/lib.rt:383:26
 enum-known-level : tie.Need-enum-known-level
 enum-known-level c = search needs
 
--- src/lib.rt:383:42
 operand-of-requires : tie.Need-operand-of-requires
 operand-of-requires c κs = search needs
 
--- src/lib.rt:384:34
 enum-known-parameters : tie.Need-enum-known-parameters
 enum-known-parameters c = search needs
 
--- src/lib.rt:385:34
 enum-known-r : tie.Need-enum-known-r
 enum-known-r c = search needs
 
--- src/lib.rt:387:28
 enum-known-r-2 : tie.Need-enum-known-r-2
 enum-known-r-2 c = search needs
 
--- src/lib.rt:373:1
 returns-2 : tie.Need-returns-2
-returns-2 c = ?
+unfolding builtAs featureOf featureIn modesAs operandAs
+returns-2 c = λ limit k e.
+    let d = c .before .before .before in
+    let g = d .before .before .before .before in
+    let b = g .before .before .before .before in
+    rw
+    (
+      two-is (b .args .args) (g .before .if1 .left),
+      ← (g .modes-of .ensures),
+      d .before .before .level .given .1,
+      ← (d .operand-of .ensures (now (b .args .text)) (b .pre .2 .second)),
+      c .before .parameters .given .1,
+    )
 
--- src/lib.rt:373:1
 returns-3 : tie.Need-returns-3
-returns-3 c = ?
+unfolding builtAs featureOf modesAs operandAs
+returns-3 c = λ limit k e.
+    let d = c .before .before .before in
+    let g = d .before .before .before .before in
+    let b = g .before .before .before .before in
+    rw
+    (
+      two-is (b .args .args) (g .before .if1 .left),
+      ← (g .modes-of .ensures),
+      d .before .before .level .given .1,
+      ← (d .operand-of .ensures (now (b .args .text)) (b .pre .2 .second)),
+      c .before .r .given .1,
+    )
 
--- src/lib.rt:373:1
 returns-4 : tie.Need-returns-4
-returns-4 c = ?
+unfolding builtAs featureOf modesAs
+returns-4 c = λ limit k e.
+    let g = c .before .before .before in
+    rw (two-is (g .before .before .before .before .args .args) (g .before .if1 .left), ← (g .modes-of .ensures), c .before .r2 .given .1)
 
 pub covariance-spec : {M : Type 1} → statement M
 covariance-spec =

@@ -1,33 +1,31 @@
+-- `features::explicit` meets its contract. Assumes nothing.
+use Rattle.reading.specs.Feature.{explicit}
+use Rattle.forms.specs.Forms.{modesIn}
+use Rattle.checks.specs.Answers.{modesAs}
 use borrow.Author.Needs.{needs}
 use Rattle.features.proofs.explicit.Statement.{statement}
 use Rattle.features.proofs.explicit.Tie as tie
-use Rattle.features.proofs.explicit.Reads as reads
-use Rattle.features.proofs.explicit.Lts as lts
-use Rattle.checks.proofs.place_of.Reads as place-of-reads
 
--- src/lib.rt:222:9
 returns : tie.Need-returns
-returns c = ?
+unfolding modesAs explicit
+returns c = λ s. rw (c .if1 .taken)
 
--- src/lib.rt:227:20
 enum-told : tie.Need-enum-told
 enum-told c = search needs
 
--- src/lib.rt:227:20
 place-of-requires : tie.Need-place-of-requires
 place-of-requires c κs = search needs
 
--- src/lib.rt:229:21
 enum-known-modes : tie.Need-enum-known-modes
 enum-known-modes c = search needs
 
--- src/lib.rt:218:1
 returns-2 : tie.Need-returns-2
-returns-2 c = ?
+unfolding modesAs modesIn explicit
+returns-2 c = λ s. rw (c .before .enum-told .given .1, c .before .before .before .if1 .left, c .place-of .ensures s)
 
--- src/lib.rt:218:1
 returns-3 : tie.Need-returns-3
-returns-3 c = ?
+unfolding modesAs modesIn explicit
+returns-3 c = λ s. rw (c .before .modes .given .1, c .before .before .before .if1 .left)
 
 pub explicit-spec : {M : Type 1} → statement M
 explicit-spec =

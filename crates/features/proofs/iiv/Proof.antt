@@ -1,29 +1,33 @@
+-- `features::iiv` meets its contract. Assumes nothing.
+use Rattle.reading.specs.Statement.{Iiv}
+use Rattle.reading.specs.Feature.{featureOf}
+use Rattle.forms.specs.Forms.{featureIn}
+use Rattle.features.specs.Answers.{builtAs, etaAs}
+use Rattle.features.proofs.Building.{variability-eta}
 use borrow.Author.Needs.{needs}
 use Rattle.features.proofs.iiv.Statement.{statement}
 use Rattle.features.proofs.iiv.Tie as tie
-use Rattle.features.proofs.iiv.Reads as reads
-use Rattle.features.proofs.iiv.Lts as lts
-use Rattle.features.proofs.eta.Reads as eta-reads
 
--- src/lib.rt:357:11
 eta-requires : tie.Need-eta-requires
 eta-requires c κs = search needs
 
--- src/lib.rt:358:22
 enum-known-parameters : tie.Need-enum-known-parameters
 enum-known-parameters c = search needs
 
--- src/lib.rt:359:26
 enum-known-r : tie.Need-enum-known-r
 enum-known-r c = search needs
 
--- src/lib.rt:353:1
 returns : tie.Need-returns
-returns c = ?
+unfolding builtAs featureOf featureIn etaAs
+returns c = λ limit k e.
+    let d = c .before .before .before in
+    rw (variability-eta (Iiv (d .before .before .args .optional)), ← (d .eta .ensures k e), c .before .parameters .given .1)
 
--- src/lib.rt:353:1
 returns-2 : tie.Need-returns-2
-returns-2 c = ?
+unfolding builtAs featureOf etaAs
+returns-2 c = λ limit k e.
+    let d = c .before .before .before in
+    rw (variability-eta (Iiv (d .before .before .args .optional)), ← (d .eta .ensures k e), c .before .r .given .1)
 
 pub iiv-spec : {M : Type 1} → statement M
 iiv-spec = tie.close (tie.spec eta-requires enum-known-parameters enum-known-r returns returns-2)

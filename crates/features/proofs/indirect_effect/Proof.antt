@@ -1,59 +1,77 @@
+-- `features::indirect_effect` meets its contract. Assumes nothing.
+use denote.Ref.{now}
+use Rattle.reading.specs.Feature.{featureOf}
+use Rattle.forms.specs.Forms.{featureIn}
+use Rattle.checks.specs.Answers.{modesAs}
+use Rattle.features.specs.Answers.{builtAs}
+use Rattle.features.proofs.Arity.{two-is, two-not}
 use borrow.Author.Needs.{needs}
 use Rattle.features.proofs.indirect_effect.Statement.{statement}
 use Rattle.features.proofs.indirect_effect.Tie as tie
-use Rattle.features.proofs.indirect_effect.Reads as reads
-use Rattle.features.proofs.indirect_effect.Lts as lts
-use Rattle.checks.proofs.modes_of.Reads as modes-of-reads
-use Rattle.features.proofs.mandatory.Reads as mandatory-reads
-use Rattle.features.proofs.wrong_number.Reads as wrong-number-reads
 
--- src/lib.rt:321:31
 wrong-number-requires : tie.Need-wrong-number-requires
 wrong-number-requires c κs = search needs
 
--- src/lib.rt:321:9
 returns : tie.Need-returns
-returns c = ?
+unfolding builtAs featureOf
+returns c = λ limit k e. rw (c .wrong-number .ensures, two-not (c .before .before .before .before .args .args) (c .before .if1 .taken), e)
 
--- src/lib.rt:325:11
 modes-of-requires : tie.Need-modes-of-requires
 modes-of-requires c κs = search needs
 
--- src/lib.rt:326:26
 enum-known-mode : tie.Need-enum-known-mode
 enum-known-mode c = search needs
 
--- src/lib.rt:326:41
 modes-of-requires-2 : tie.Need-modes-of-requires-2
 modes-of-requires-2 c κs = search needs
 
--- src/lib.rt:327:30
 enum-known-production : tie.Need-enum-known-production
 enum-known-production c = search needs
 
--- src/lib.rt:327:45
 mandatory-requires : tie.Need-mandatory-requires
 mandatory-requires c κs = search needs
 
--- src/lib.rt:328:32
 enum-known-r : tie.Need-enum-known-r
 enum-known-r c = search needs
 
--- src/lib.rt:330:28
 enum-known-r-2 : tie.Need-enum-known-r-2
 enum-known-r-2 c = search needs
 
--- src/lib.rt:316:1
 returns-2 : tie.Need-returns-2
-returns-2 c = ?
+unfolding featureOf featureIn modesAs
+returns-2 c = λ limit k e.
+    let d = c .before .before .before .before in
+    let g = d .before .before .before .before in
+    let a = g .before .before .before .before .args in
+    rw
+    (
+      two-is (a .args) (g .before .if1 .left),
+      ← (g .modes-of .ensures),
+      d .before .before .mode .given .1,
+      ← (d .modes-of2 .ensures),
+      c .before .before .production .given .1,
+    )
+    (c .mandatory .ensures (now (a .text)) k e)
 
--- src/lib.rt:316:1
 returns-3 : tie.Need-returns-3
-returns-3 c = ?
+unfolding builtAs featureOf modesAs
+returns-3 c = λ limit k e.
+    let d = c .before .before .before in
+    let g = d .before .before .before .before in
+    rw
+    (
+      two-is (g .before .before .before .before .args .args) (g .before .if1 .left),
+      ← (g .modes-of .ensures),
+      d .before .before .mode .given .1,
+      ← (d .modes-of2 .ensures),
+      c .before .r .given .1,
+    )
 
--- src/lib.rt:316:1
 returns-4 : tie.Need-returns-4
-returns-4 c = ?
+unfolding builtAs featureOf modesAs
+returns-4 c = λ limit k e.
+    let g = c .before .before .before in
+    rw (two-is (g .before .before .before .before .args .args) (g .before .if1 .left), ← (g .modes-of .ensures), c .before .r2 .given .1)
 
 pub indirect-effect-spec : {M : Type 1} → statement M
 indirect-effect-spec =

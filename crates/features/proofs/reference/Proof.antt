@@ -1,33 +1,36 @@
+-- `features::reference` meets its contract. Assumes nothing.
+use Rattle.forms.specs.Forms.{someNameIn}
+use Rattle.checks.specs.Answers.{nameAs}
+use Rattle.features.specs.Answers.{someNameAs}
+use Rattle.features.proofs.Arity.{second-none, second-some}
 use borrow.Author.Needs.{needs}
 use Rattle.features.proofs.reference.Statement.{statement}
 use Rattle.features.proofs.reference.Tie as tie
-use Rattle.features.proofs.reference.Reads as reads
-use Rattle.features.proofs.reference.Lts as lts
-use Rattle.checks.proofs.number_of.Reads as number-of-reads
 
--- src/lib.rt:288:9
 returns : tie.Need-returns
-returns c = ?
+unfolding someNameAs someNameIn
+returns c = λ s. rw (second-none (c .before .before .args .args) (c .if1 .taken))
 
--- src/lib.rt:291:11
 number-of-requires : tie.Need-number-of-requires
 number-of-requires c κs = search needs
 
--- src/lib.rt:292:24
 enum-known-name : tie.Need-enum-known-name
 enum-known-name c = search needs
 
--- src/lib.rt:293:27
 enum-known-r : tie.Need-enum-known-r
 enum-known-r c = search needs
 
--- src/lib.rt:284:1
 returns-2 : tie.Need-returns-2
-returns-2 c = ?
+unfolding someNameAs someNameIn nameAs
+returns-2 c = λ s.
+    let d = c .before .before .before in
+    rw (second-some (d .before .before .before .args .args) (d .before .if1 .left), ← (d .number-of .ensures s), c .before .name .given .1)
 
--- src/lib.rt:284:1
 returns-3 : tie.Need-returns-3
-returns-3 c = ?
+unfolding someNameAs nameAs
+returns-3 c = λ s.
+    let d = c .before .before .before in
+    rw (second-some (d .before .before .before .args .args) (d .before .if1 .left), ← (d .number-of .ensures s), c .before .r .given .1)
 
 pub reference-spec : {M : Type 1} → statement M
 reference-spec =

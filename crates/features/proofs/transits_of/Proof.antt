@@ -1,47 +1,49 @@
+-- `features::transits_of` meets its contract. Assumes nothing.
+use denote.Ref.{now}
+use Rattle.reading.specs.Feature.{transitsOf}
+use Rattle.forms.specs.Forms.{transitsIn}
+use Rattle.checks.specs.Answers.{countsAs}
+use Rattle.features.specs.Answers.{transitsAs}
+use Rattle.features.proofs.Arity.{second-none, second-some}
 use borrow.Author.Needs.{needs}
 use Rattle.features.proofs.transits_of.Statement.{statement}
 use Rattle.features.proofs.transits_of.Tie as tie
-use Rattle.features.proofs.transits_of.Reads as reads
-use Rattle.features.proofs.transits_of.Lts as lts
-use Rattle.checks.proofs.counts_of.Reads as counts-of-reads
-use Rattle.checks.proofs.is_n.Reads as is-n-reads
-use Rattle.checks.proofs.place_of.Reads as place-of-reads
 
--- src/lib.rt:182:8
 is-n-requires : tie.Need-is-n-requires
 is-n-requires c κs = search needs
 
--- src/lib.rt:184:13
 returns : tie.Need-returns
-returns c = ?
+unfolding transitsOf transitsAs transitsIn
+returns c = let d = c .before .before .before in
+    rw (← (d .is-n .ensures), c .before .before .if1 .taken, second-none (d .before .before .args .args) (c .if2 .taken))
 
--- src/lib.rt:189:20
 place-of-requires : tie.Need-place-of-requires
 place-of-requires c κs = search needs
 
--- src/lib.rt:187:9
 returns-2 : tie.Need-returns-2
-returns-2 c = ?
+unfolding transitsOf transitsAs
+returns-2 c = let d = c .before .before .before .before in
+    let a = d .before .before .args in
+    rw (← (d .is-n .ensures), c .before .before .before .if1 .taken, second-some (a .args) (c .before .if2 .left), c .place-of .ensures (now (a .text)))
 
--- src/lib.rt:192:11
 counts-of-requires : tie.Need-counts-of-requires
 counts-of-requires c κs = search needs
 
--- src/lib.rt:193:28
 enum-known-counts : tie.Need-enum-known-counts
 enum-known-counts c = search needs
 
--- src/lib.rt:194:29
 enum-known-r : tie.Need-enum-known-r
 enum-known-r c = search needs
 
--- src/lib.rt:177:1
 returns-3 : tie.Need-returns-3
-returns-3 c = ?
+unfolding transitsOf transitsAs transitsIn countsAs
+returns-3 c = let d = c .before .before .before in
+    rw (← (d .before .before .is-n .ensures), d .before .if1 .left, ← (d .counts-of .ensures), c .before .counts .given .1)
 
--- src/lib.rt:177:1
 returns-4 : tie.Need-returns-4
-returns-4 c = ?
+unfolding transitsOf transitsAs countsAs
+returns-4 c = let d = c .before .before .before in
+    rw (← (d .before .before .is-n .ensures), d .before .if1 .left, ← (d .counts-of .ensures), c .before .r .given .1)
 
 pub transits-of-spec : {M : Type 1} → statement M
 transits-of-spec =
