@@ -1,50 +1,54 @@
+-- `features::build` meets its contract: the part of the text is the keyword's spelling. Assumes nothing.
+use mathlib.Core.Path.{refl, _∙_, sym}
+use native.Mathlib.Nat.{add-sub-cancel-left}
+use denote.Ref.{now}
+use Rattle.reading.specs.Feature.{buildFeature}
+use Rattle.forms.specs.Items.{nameIn}
+use Rattle.features.specs.Answers.{builtAs}
+use Rattle.features.proofs.Building.{keyword-found, keyword-none}
 use borrow.Author.Needs.{needs}
 use Rattle.features.proofs.build.Statement.{statement}
 use Rattle.features.proofs.build.Tie as tie
-use Rattle.features.proofs.build.Reads as reads
-use Rattle.features.proofs.build.Lts as lts
-use Rattle.features.proofs.build_known.Reads as build-known-reads
-use Rattle.labels.proofs.find_keyword.Reads as find-keyword-reads
 
--- src/lib.rt:447:15
 add-end : tie.Need-add-end
 add-end c = search needs
 
--- src/lib.rt:448:38
 sub-find-keyword : tie.Need-sub-find-keyword
 sub-find-keyword c = search needs
 
--- src/lib.rt:448:38
 part-find-keyword-start : tie.Need-part-find-keyword-start
 part-find-keyword-start c = search needs
 
--- src/lib.rt:448:38
 part-find-keyword-end : tie.Need-part-find-keyword-end
 part-find-keyword-end c = search needs
 
--- src/lib.rt:448:11
 find-keyword-requires : tie.Need-find-keyword-requires
 find-keyword-requires c κs = search needs
 
--- src/lib.rt:449:22
 enum-known-place : tie.Need-enum-known-place
 enum-known-place c = search needs
 
--- src/lib.rt:449:32
 build-known-requires : tie.Need-build-known-requires
 build-known-requires c κs = search needs
 
--- src/lib.rt:450:42
 enum-told : tie.Need-enum-told
 enum-told c = search needs
 
--- src/lib.rt:441:1
 returns : tie.Need-returns
-returns c = ?
+unfolding buildFeature
+returns c = let d = c .before .before .before .before in
+    let a = d .before .before .before .before .args in
+    let n = nameIn (now (a .text)) (a .keyword) in
+    let h = rw (add-sub-cancel-left (a .keyword .offset) (a .keyword .length)) at (d .find-keyword .ensures) in
+    let p = c .before .before .place .given in
+    rw (keyword-found (n .spelling) (p .0 .0) (sym (p .1) ∙ h)) (c .build-known .ensures n refl)
 
--- src/lib.rt:441:1
 returns-2 : tie.Need-returns-2
-returns-2 c = ?
+unfolding buildFeature builtAs
+returns-2 c = let d = c .before .before in
+    let a = d .before .before .before .before .args in
+    let h = rw (add-sub-cancel-left (a .keyword .offset) (a .keyword .length)) at (d .find-keyword .ensures) in
+    rw (keyword-none (nameIn (now (a .text)) (a .keyword) .spelling) (sym (c .enum-told .given .1) ∙ h))
 
 pub build-spec : {M : Type 1} → statement M
 build-spec =

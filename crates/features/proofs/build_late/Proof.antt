@@ -1,73 +1,62 @@
+-- `features::build_late` meets its contract, keyword by keyword. Assumes nothing.
+use Rattle.reading.specs.Feature.{featureOf}
+use Rattle.features.specs.Answers.{builtAs}
+use Rattle.features.proofs.Building.{place-none}
 use borrow.Author.Needs.{needs}
 use Rattle.features.proofs.build_late.Statement.{statement}
 use Rattle.features.proofs.build_late.Tie as tie
-use Rattle.features.proofs.build_late.Reads as reads
-use Rattle.features.proofs.build_late.Lts as lts
-use Rattle.features.proofs.covariance.Reads as covariance-reads
-use Rattle.features.proofs.iiv.Reads as iiv-reads
-use Rattle.features.proofs.indirect_effect.Reads as indirect-effect-reads
-use Rattle.features.proofs.iov.Reads as iov-reads
-use Rattle.features.proofs.modes_alone.Reads as modes-alone-reads
 
--- src/lib.rt:415:14
 modes-alone-requires : tie.Need-modes-alone-requires
 modes-alone-requires c κs = search needs
 
--- src/lib.rt:416:14
 modes-alone-requires-2 : tie.Need-modes-alone-requires-2
 modes-alone-requires-2 c κs = search needs
 
--- src/lib.rt:417:14
 indirect-effect-requires : tie.Need-indirect-effect-requires
 indirect-effect-requires c κs = search needs
 
--- src/lib.rt:418:15
 modes-alone-requires-3 : tie.Need-modes-alone-requires-3
 modes-alone-requires-3 c κs = search needs
 
--- src/lib.rt:419:15
 iiv-requires : tie.Need-iiv-requires
 iiv-requires c κs = search needs
 
--- src/lib.rt:420:15
 iov-requires : tie.Need-iov-requires
 iov-requires c κs = search needs
 
--- src/lib.rt:421:15
 covariance-requires : tie.Need-covariance-requires
 covariance-requires c κs = search needs
 
--- src/lib.rt:409:1
 returns : tie.Need-returns
-returns c = ?
+unfolding featureOf
+returns c = λ k e. rw (c .before .match .keys1) (c .modes-alone .ensures k e)
 
--- src/lib.rt:409:1
 returns-2 : tie.Need-returns-2
-returns-2 c = ?
+unfolding featureOf
+returns-2 c = λ k e. rw (c .before .match .keys2) (c .modes-alone2 .ensures k e)
 
--- src/lib.rt:409:1
 returns-3 : tie.Need-returns-3
-returns-3 c = ?
+returns-3 c = λ k e. rw (c .before .match .keys3) (c .indirect-effect .ensures (c .before .before .before .args .limit) k e)
 
--- src/lib.rt:409:1
 returns-4 : tie.Need-returns-4
-returns-4 c = ?
+unfolding featureOf
+returns-4 c = λ k e. rw (c .before .match .keys4) (c .modes-alone3 .ensures k e)
 
--- src/lib.rt:409:1
 returns-5 : tie.Need-returns-5
-returns-5 c = ?
+returns-5 c = λ k e. rw (c .before .match .keys5) (c .iiv .ensures (c .before .before .before .args .limit) k e)
 
--- src/lib.rt:409:1
 returns-6 : tie.Need-returns-6
-returns-6 c = ?
+returns-6 c = λ k e. rw (c .before .match .keys6) (c .iov .ensures (c .before .before .before .args .limit) k e)
 
--- src/lib.rt:409:1
 returns-7 : tie.Need-returns-7
-returns-7 c = ?
+returns-7 c = λ k e. rw (c .before .match .keys7) (c .covariance .ensures (c .before .before .before .args .limit) k e)
 
--- src/lib.rt:409:1
 returns-8 : tie.Need-returns-8
-returns-8 c = ?
+unfolding builtAs
+returns-8 c = λ k e.
+    let b = c .before .before in
+    let r = c .match .rest in
+    rw (place-none (b .args .keyword) (b .pre .1) (r .0 .0 .0 .0 .0 .0 .1) (r .0 .0 .0 .0 .0 .1) (r .0 .0 .0 .0 .1) (r .0 .0 .0 .1) (r .0 .0 .1) (r .0 .1) (r .1), e)
 
 pub build-late-spec : {M : Type 1} → statement M
 build-late-spec =
