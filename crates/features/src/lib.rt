@@ -17,7 +17,6 @@ ghost use Rattle.forms.specs.Forms.{argIn, argsIn, modesIn, featureIn};
 ghost use Rattle.forms.specs.Fits.{InText, Fits, AllFit};
 ghost use Rattle.checks.specs.Answers.{modesAs, opReadAs};
 ghost use Rattle.features.specs.Answers.{builtAs, someModesAs, someNameAs, transitsAs, etaAs, secondIn, fourthIn, effectsOf, etaOf, familyOf, featureWith, Builds, BuildsKnown};
-
 use checks::CountsRead;
 use checks::ModesRead;
 use checks::NameRead;
@@ -124,7 +123,15 @@ fn feature_with(alone: Alone, modes: Modes) -> Feature
 }
 
 // A feature of one argument, which is modes, and no `?`.
-fn modes_alone(text: &[u8], classes: &[u8; 256], labels: &[u8; 608], alone: Alone, args: Args, optional: bool, at: usize) -> Built
+fn modes_alone(
+    text: &[u8],
+    classes: &[u8; 256],
+    labels: &[u8; 608],
+    alone: Alone,
+    args: Args,
+    optional: bool,
+    at: usize,
+) -> Built
     requires { ⌜ (now classes ≡ classTable) × (now labels ≡ labelTable) × AllFit (now text) args ⌝ }
     ensures { λ r. ⌜ ((k : Name·spec) → k .place ≡ at → builtAs (now (text .entry)) r ≡ modesOnly (familyOf alone) (featureWith alone) k optional (argsIn (now (text .entry)) args)) ⌝ }
 {
@@ -139,7 +146,13 @@ fn modes_alone(text: &[u8], classes: &[u8; 256], labels: &[u8; 608], alone: Alon
 }
 
 // Modes as the second argument, which may be left out.
-fn second_modes(text: &[u8], classes: &[u8; 256], labels: &[u8; 608], family: Family, args: Args) -> SomeModesRead
+fn second_modes(
+    text: &[u8],
+    classes: &[u8; 256],
+    labels: &[u8; 608],
+    family: Family,
+    args: Args,
+) -> SomeModesRead
     requires { ⌜ (now classes ≡ classTable) × (now labels ≡ labelTable) × AllFit (now text) args ⌝ }
     ensures { λ r. ⌜ someModesAs (now (text .entry)) family r ≡ optionally (modesOf family) (secondIn (now (text .entry)) args) ⌝ }
 {
@@ -153,7 +166,15 @@ fn second_modes(text: &[u8], classes: &[u8; 256], labels: &[u8; 608], family: Fa
     }
 }
 
-fn peripherals(text: &[u8], classes: &[u8; 256], labels: &[u8; 608], args: Args, optional: bool, at: usize, limit: u32) -> Built
+fn peripherals(
+    text: &[u8],
+    classes: &[u8; 256],
+    labels: &[u8; 608],
+    args: Args,
+    optional: bool,
+    at: usize,
+    limit: u32,
+) -> Built
     requires { ⌜ (now classes ≡ classTable) × (now labels ≡ labelTable) × AllFit (now text) args ⌝ }
     ensures { λ r. ⌜ Builds (now (text .entry)) limit PERIPHERALS optional at args r ⌝ }
 {
@@ -165,8 +186,18 @@ fn peripherals(text: &[u8], classes: &[u8; 256], labels: &[u8; 608], args: Args,
     }
     let first = args.first;
     match checks::counts_of(text, classes, first, limit) {
-        CountsRead::Counts(counts) => match second_modes(text, classes, labels, Family::PeripheralKind, args) {
-            SomeModesRead::Modes(kind) => mandatory(Feature::Peripherals { counts, kind }, optional, at),
+        CountsRead::Counts(counts) => match second_modes(
+            text,
+            classes,
+            labels,
+            Family::PeripheralKind,
+            args,
+        ) {
+            SomeModesRead::Modes(kind) => mandatory(
+                Feature::Peripherals { counts, kind },
+                optional,
+                at,
+            ),
             SomeModesRead::Refused(r) => Built::Refused(r),
         },
         CountsRead::Refused(r) => Built::Refused(r),
@@ -195,7 +226,15 @@ fn transits_of(text: &[u8], classes: &[u8; 256], args: Args, limit: u32) -> Tran
     }
 }
 
-fn transits(text: &[u8], classes: &[u8; 256], labels: &[u8; 608], args: Args, optional: bool, at: usize, limit: u32) -> Built
+fn transits(
+    text: &[u8],
+    classes: &[u8; 256],
+    labels: &[u8; 608],
+    args: Args,
+    optional: bool,
+    at: usize,
+    limit: u32,
+) -> Built
     requires { ⌜ (now classes ≡ classTable) × (now labels ≡ labelTable) × AllFit (now text) args ⌝ }
     ensures { λ r. ⌜ Builds (now (text .entry)) limit TRANSITS optional at args r ⌝ }
 {
@@ -206,8 +245,18 @@ fn transits(text: &[u8], classes: &[u8; 256], labels: &[u8; 608], args: Args, op
         return Built::Refused(wrong_number(at));
     }
     match transits_of(text, classes, args, limit) {
-        TransitsRead::Counts(counts) => match second_modes(text, classes, labels, Family::DepotMode, args) {
-            SomeModesRead::Modes(depot) => mandatory(Feature::Transits { counts, depot }, optional, at),
+        TransitsRead::Counts(counts) => match second_modes(
+            text,
+            classes,
+            labels,
+            Family::DepotMode,
+            args,
+        ) {
+            SomeModesRead::Modes(depot) => mandatory(
+                Feature::Transits { counts, depot },
+                optional,
+                at,
+            ),
             SomeModesRead::Refused(r) => Built::Refused(r),
         },
         TransitsRead::Refused(r) => Built::Refused(r),
@@ -231,7 +280,13 @@ fn explicit(arg: Arg, modes: Modes, optional: bool) -> ModesRead
 }
 
 // An argument as the effects of COVARIATE.
-fn effects_of(text: &[u8], classes: &[u8; 256], labels: &[u8; 608], arg: Arg, optional: bool) -> ModesRead
+fn effects_of(
+    text: &[u8],
+    classes: &[u8; 256],
+    labels: &[u8; 608],
+    arg: Arg,
+    optional: bool,
+) -> ModesRead
     requires { ⌜ (now classes ≡ classTable) × (now labels ≡ labelTable) × Fits (now text) arg ⌝ }
     ensures { λ r. ⌜ modesAs (now (text .entry)) CovariateEffect r ≡ effectsOf optional (argIn (now (text .entry)) arg) ⌝ }
 {
@@ -252,7 +307,15 @@ fn operator(args: Args) -> OpRead
     checks::op_of(fourth)
 }
 
-fn covariate(text: &[u8], classes: &[u8; 256], labels: &[u8; 608], args: Args, optional: bool, at: usize, limit: u32) -> Built
+fn covariate(
+    text: &[u8],
+    classes: &[u8; 256],
+    labels: &[u8; 608],
+    args: Args,
+    optional: bool,
+    at: usize,
+    limit: u32,
+) -> Built
     requires { ⌜ (now classes ≡ classTable) × (now labels ≡ labelTable) × AllFit (now text) args ⌝ }
     ensures { λ r. ⌜ Builds (now (text .entry)) limit COVARIATE optional at args r ⌝ }
 {
@@ -267,9 +330,21 @@ fn covariate(text: &[u8], classes: &[u8; 256], labels: &[u8; 608], args: Args, o
     let third = args.third;
     match checks::operand_of(first) {
         OperandRead::Operand(parameters) => match checks::operand_of(second) {
-            OperandRead::Operand(covariates) => match effects_of(text, classes, labels, third, optional) {
+            OperandRead::Operand(covariates) => match effects_of(
+                text,
+                classes,
+                labels,
+                third,
+                optional,
+            ) {
                 ModesRead::Modes(effects) => match operator(args) {
-                    OpRead::Op(op) => Built::Feature(Feature::Covariate { optional, parameters, covariates, effects, op }),
+                    OpRead::Op(op) => Built::Feature(Feature::Covariate {
+                        optional,
+                        parameters,
+                        covariates,
+                        effects,
+                        op,
+                    }),
                     OpRead::Refused(r) => Built::Refused(r),
                 },
                 ModesRead::Refused(r) => Built::Refused(r),
@@ -306,14 +381,28 @@ fn allometry(args: Args, optional: bool, at: usize) -> Built
     let first = args.first;
     match checks::word_of(first) {
         NameRead::Name(covariate) => match reference(args) {
-            SomeNameRead::Name(reference) => mandatory(Feature::Allometry { covariate, reference }, optional, at),
+            SomeNameRead::Name(reference) => mandatory(
+                Feature::Allometry {
+                    covariate,
+                    reference,
+                },
+                optional,
+                at,
+            ),
             SomeNameRead::Refused(r) => Built::Refused(r),
         },
         NameRead::Refused(r) => Built::Refused(r),
     }
 }
 
-fn indirect_effect(text: &[u8], classes: &[u8; 256], labels: &[u8; 608], args: Args, optional: bool, at: usize) -> Built
+fn indirect_effect(
+    text: &[u8],
+    classes: &[u8; 256],
+    labels: &[u8; 608],
+    args: Args,
+    optional: bool,
+    at: usize,
+) -> Built
     requires { ⌜ (now classes ≡ classTable) × (now labels ≡ labelTable) × AllFit (now text) args ⌝ }
     ensures { λ r. ⌜ ((limit : ℕ) → Builds (now (text .entry)) limit INDIRECTEFFECT optional at args r) ⌝ }
 {
@@ -323,8 +412,18 @@ fn indirect_effect(text: &[u8], classes: &[u8; 256], labels: &[u8; 608], args: A
     let first = args.first;
     let second = args.second;
     match checks::modes_of(text, classes, labels, Family::PdMode, first) {
-        ModesRead::Modes(mode) => match checks::modes_of(text, classes, labels, Family::ProductionMode, second) {
-            ModesRead::Modes(production) => mandatory(Feature::IndirectEffect { mode, production }, optional, at),
+        ModesRead::Modes(mode) => match checks::modes_of(
+            text,
+            classes,
+            labels,
+            Family::ProductionMode,
+            second,
+        ) {
+            ModesRead::Modes(production) => mandatory(
+                Feature::IndirectEffect { mode, production },
+                optional,
+                at,
+            ),
             ModesRead::Refused(r) => Built::Refused(r),
         },
         ModesRead::Refused(r) => Built::Refused(r),
@@ -342,7 +441,13 @@ fn eta(text: &[u8], classes: &[u8; 256], labels: &[u8; 608], args: Args, at: usi
     let first = args.first;
     let second = args.second;
     match checks::operand_of(first) {
-        OperandRead::Operand(parameters) => match checks::modes_of(text, classes, labels, Family::VariabilityEffect, second) {
+        OperandRead::Operand(parameters) => match checks::modes_of(
+            text,
+            classes,
+            labels,
+            Family::VariabilityEffect,
+            second,
+        ) {
             ModesRead::Modes(effects) => EtaRead::Eta(parameters, effects),
             ModesRead::Refused(r) => EtaRead::Refused(r),
         },
@@ -350,27 +455,56 @@ fn eta(text: &[u8], classes: &[u8; 256], labels: &[u8; 608], args: Args, at: usi
     }
 }
 
-fn iiv(text: &[u8], classes: &[u8; 256], labels: &[u8; 608], args: Args, optional: bool, at: usize) -> Built
+fn iiv(
+    text: &[u8],
+    classes: &[u8; 256],
+    labels: &[u8; 608],
+    args: Args,
+    optional: bool,
+    at: usize,
+) -> Built
     requires { ⌜ (now classes ≡ classTable) × (now labels ≡ labelTable) × AllFit (now text) args ⌝ }
     ensures { λ r. ⌜ ((limit : ℕ) → Builds (now (text .entry)) limit IIV optional at args r) ⌝ }
 {
     match eta(text, classes, labels, args, at) {
-        EtaRead::Eta(parameters, effects) => Built::Feature(Feature::Iiv { optional, parameters, effects }),
+        EtaRead::Eta(parameters, effects) => Built::Feature(Feature::Iiv {
+            optional,
+            parameters,
+            effects,
+        }),
         EtaRead::Refused(r) => Built::Refused(r),
     }
 }
 
-fn iov(text: &[u8], classes: &[u8; 256], labels: &[u8; 608], args: Args, optional: bool, at: usize) -> Built
+fn iov(
+    text: &[u8],
+    classes: &[u8; 256],
+    labels: &[u8; 608],
+    args: Args,
+    optional: bool,
+    at: usize,
+) -> Built
     requires { ⌜ (now classes ≡ classTable) × (now labels ≡ labelTable) × AllFit (now text) args ⌝ }
     ensures { λ r. ⌜ ((limit : ℕ) → Builds (now (text .entry)) limit IOV optional at args r) ⌝ }
 {
     match eta(text, classes, labels, args, at) {
-        EtaRead::Eta(parameters, effects) => Built::Feature(Feature::Iov { optional, parameters, effects }),
+        EtaRead::Eta(parameters, effects) => Built::Feature(Feature::Iov {
+            optional,
+            parameters,
+            effects,
+        }),
         EtaRead::Refused(r) => Built::Refused(r),
     }
 }
 
-fn covariance(text: &[u8], classes: &[u8; 256], labels: &[u8; 608], args: Args, optional: bool, at: usize) -> Built
+fn covariance(
+    text: &[u8],
+    classes: &[u8; 256],
+    labels: &[u8; 608],
+    args: Args,
+    optional: bool,
+    at: usize,
+) -> Built
     requires { ⌜ (now classes ≡ classTable) × (now labels ≡ labelTable) × AllFit (now text) args ⌝ }
     ensures { λ r. ⌜ ((limit : ℕ) → Builds (now (text .entry)) limit COVARIANCE optional at args r) ⌝ }
 {
@@ -381,7 +515,11 @@ fn covariance(text: &[u8], classes: &[u8; 256], labels: &[u8; 608], args: Args, 
     let second = args.second;
     match checks::modes_of(text, classes, labels, Family::VariabilityLevel, first) {
         ModesRead::Modes(level) => match checks::operand_of(second) {
-            OperandRead::Operand(parameters) => Built::Feature(Feature::Covariance { optional, level, parameters }),
+            OperandRead::Operand(parameters) => Built::Feature(Feature::Covariance {
+                optional,
+                level,
+                parameters,
+            }),
             OperandRead::Refused(r) => Built::Refused(r),
         },
         ModesRead::Refused(r) => Built::Refused(r),
@@ -389,14 +527,31 @@ fn covariance(text: &[u8], classes: &[u8; 256], labels: &[u8; 608], args: Args, 
 }
 
 // The first seven keywords of the table.
-fn build_early(text: &[u8], classes: &[u8; 256], labels: &[u8; 608], keyword: usize, args: Args, optional: bool, at: usize, limit: u32) -> Built
+fn build_early(
+    text: &[u8],
+    classes: &[u8; 256],
+    labels: &[u8; 608],
+    keyword: usize,
+    args: Args,
+    optional: bool,
+    at: usize,
+    limit: u32,
+) -> Built
     requires { ⌜ (now classes ≡ classTable) × (now labels ≡ labelTable) × AllFit (now text) args ⌝ }
     requires { ⌜ keyword < 7 ⌝ }
     ensures { λ r. ⌜ BuildsKnown (now (text .entry)) limit keyword optional at args r ⌝ }
 {
     match keyword {
         0 => modes_alone(text, classes, labels, Alone::Absorption, args, optional, at),
-        1 => modes_alone(text, classes, labels, Alone::Elimination, args, optional, at),
+        1 => modes_alone(
+            text,
+            classes,
+            labels,
+            Alone::Elimination,
+            args,
+            optional,
+            at,
+        ),
         2 => peripherals(text, classes, labels, args, optional, at, limit),
         3 => transits(text, classes, labels, args, optional, at, limit),
         4 => modes_alone(text, classes, labels, Alone::Lagtime, args, optional, at),
@@ -406,13 +561,30 @@ fn build_early(text: &[u8], classes: &[u8; 256], labels: &[u8; 608], keyword: us
 }
 
 // The other keywords of the table, of which LET is no feature's.
-fn build_late(text: &[u8], classes: &[u8; 256], labels: &[u8; 608], keyword: usize, args: Args, optional: bool, at: usize, limit: u32) -> Built
+fn build_late(
+    text: &[u8],
+    classes: &[u8; 256],
+    labels: &[u8; 608],
+    keyword: usize,
+    args: Args,
+    optional: bool,
+    at: usize,
+    limit: u32,
+) -> Built
     requires { ⌜ (now classes ≡ classTable) × (now labels ≡ labelTable) × AllFit (now text) args ⌝ }
     requires { ⌜ 7 ≤ keyword ⌝ }
     ensures { λ r. ⌜ BuildsKnown (now (text .entry)) limit keyword optional at args r ⌝ }
 {
     match keyword {
-        7 => modes_alone(text, classes, labels, Alone::DirectEffect, args, optional, at),
+        7 => modes_alone(
+            text,
+            classes,
+            labels,
+            Alone::DirectEffect,
+            args,
+            optional,
+            at,
+        ),
         8 => modes_alone(text, classes, labels, Alone::EffectComp, args, optional, at),
         9 => indirect_effect(text, classes, labels, args, optional, at),
         10 => modes_alone(text, classes, labels, Alone::Metabolite, args, optional, at),
@@ -427,7 +599,16 @@ fn build_late(text: &[u8], classes: &[u8; 256], labels: &[u8; 608], keyword: usi
 }
 
 // A feature by its keyword's place in the table.
-pub fn build_known(text: &[u8], classes: &[u8; 256], labels: &[u8; 608], keyword: usize, args: Args, optional: bool, at: usize, limit: u32) -> Built
+pub fn build_known(
+    text: &[u8],
+    classes: &[u8; 256],
+    labels: &[u8; 608],
+    keyword: usize,
+    args: Args,
+    optional: bool,
+    at: usize,
+    limit: u32,
+) -> Built
     requires { ⌜ (now classes ≡ classTable) × (now labels ≡ labelTable) × AllFit (now text) args ⌝ }
     ensures { λ r. ⌜ BuildsKnown (now (text .entry)) limit keyword optional at args r ⌝ }
 {
@@ -438,7 +619,16 @@ pub fn build_known(text: &[u8], classes: &[u8; 256], labels: &[u8; 608], keyword
 }
 
 // A feature by its keyword and its arguments, with its `?`, under a limit for counts.
-pub fn build(text: &[u8], classes: &[u8; 256], labels: &[u8; 608], keys: &[u8; 240], keyword: Name, args: Args, optional: bool, limit: u32) -> Built
+pub fn build(
+    text: &[u8],
+    classes: &[u8; 256],
+    labels: &[u8; 608],
+    keys: &[u8; 240],
+    keyword: Name,
+    args: Args,
+    optional: bool,
+    limit: u32,
+) -> Built
     requires { ⌜ (now classes ≡ classTable) × (now labels ≡ labelTable) × (now keys ≡ keywordTable) ⌝ }
     requires { ⌜ InText (now text) keyword × AllFit (now text) args ⌝ }
     ensures { λ r. ⌜ builtAs (now (text .entry)) r ≡ buildFeature limit (nameIn (now (text .entry)) keyword) optional (argsIn (now (text .entry)) args) ⌝ }
@@ -446,7 +636,16 @@ pub fn build(text: &[u8], classes: &[u8; 256], labels: &[u8; 608], keys: &[u8; 2
     let start = keyword.offset;
     let end = start + keyword.length;
     match labels::find_keyword(keys, &text[start..end]) {
-        Found::Place(place) => build_known(text, classes, labels, place, args, optional, start, limit),
+        Found::Place(place) => build_known(
+            text,
+            classes,
+            labels,
+            place,
+            args,
+            optional,
+            start,
+            limit,
+        ),
         Found::Nothing => Built::Refused(Refusal {
             number: 6,
             place: start,

@@ -48,8 +48,7 @@ unfolding featureOf featureIn nameAs someNameAs
 returns-3 c = λ s limit k e.
     let d = c .before .before .before .before in
     let g = d .before .before .before .before in
-    rw
-    (
+    rw (
       oneOrTwo-is (g .before .before .before .before .before .args .args) (g .before .before .before .if1 .left) (g .before .if2 .left),
       ← (g .word-of .ensures s),
       d .before .before .covariate .given .1,
@@ -63,8 +62,7 @@ unfolding builtAs featureOf nameAs someNameAs
 returns-4 c = λ s limit k e.
     let d = c .before .before .before in
     let g = d .before .before .before .before in
-    rw
-    (
+    rw (
       oneOrTwo-is (g .before .before .before .before .before .args .args) (g .before .before .before .if1 .left) (g .before .if2 .left),
       ← (g .word-of .ensures s),
       d .before .before .covariate .given .1,
@@ -76,8 +74,7 @@ returns-5 : tie.Need-returns-5
 unfolding builtAs featureOf nameAs
 returns-5 c = λ s limit k e.
     let g = c .before .before .before in
-    rw
-    (
+    rw (
       oneOrTwo-is (g .before .before .before .before .before .args .args) (g .before .before .before .if1 .left) (g .before .if2 .left),
       ← (g .word-of .ensures s),
       c .before .r2 .given .1,

@@ -40,8 +40,7 @@ returns-2 c = λ limit k e.
     let d = c .before .before .before in
     let g = d .before .before .before .before in
     let b = g .before .before .before .before in
-    rw
-    (
+    rw (
       two-is (b .args .args) (g .before .if1 .left),
       ← (g .modes-of .ensures),
       d .before .before .level .given .1,
@@ -55,8 +54,7 @@ returns-3 c = λ limit k e.
     let d = c .before .before .before in
     let g = d .before .before .before .before in
     let b = g .before .before .before .before in
-    rw
-    (
+    rw (
       two-is (b .args .args) (g .before .if1 .left),
       ← (g .modes-of .ensures),
       d .before .before .level .given .1,

@@ -68,8 +68,7 @@ returns-3 c = λ k e.
     let d = f .before .before .before .before in
     let g = d .before .before .before .before in
     let b = g .before .before .before .before .before .before in
-    rw
-    (
+    rw (
       covariate-is (b .args .optional) (b .args .args) (g .before .before .before .if1 .left) (g .before .if2 .left),
       ← (g .operand-of .ensures (now (b .args .text)) (b .pre .2 .first)),
       d .before .before .parameters .given .1,
@@ -89,8 +88,7 @@ returns-4 c = λ k e.
     let d = f .before .before .before .before in
     let g = d .before .before .before .before in
     let b = g .before .before .before .before .before .before in
-    rw
-    (
+    rw (
       covariate-is (b .args .optional) (b .args .args) (g .before .before .before .if1 .left) (g .before .if2 .left),
       ← (g .operand-of .ensures (now (b .args .text)) (b .pre .2 .first)),
       d .before .before .parameters .given .1,
@@ -109,8 +107,7 @@ returns-5 c = λ k e.
     let d = f .before .before .before .before in
     let g = d .before .before .before .before in
     let b = g .before .before .before .before .before .before in
-    rw
-    (
+    rw (
       covariate-is (b .args .optional) (b .args .args) (g .before .before .before .if1 .left) (g .before .if2 .left),
       ← (g .operand-of .ensures (now (b .args .text)) (b .pre .2 .first)),
       d .before .before .parameters .given .1,
@@ -126,8 +123,7 @@ returns-6 c = λ k e.
     let d = c .before .before .before in
     let g = d .before .before .before .before in
     let b = g .before .before .before .before .before .before in
-    rw
-    (
+    rw (
       covariate-is (b .args .optional) (b .args .args) (g .before .before .before .if1 .left) (g .before .if2 .left),
       ← (g .operand-of .ensures (now (b .args .text)) (b .pre .2 .first)),
       d .before .before .parameters .given .1,
@@ -140,8 +136,7 @@ unfolding builtAs operandAs
 returns-7 c = λ k e.
     let g = c .before .before .before in
     let b = g .before .before .before .before .before .before in
-    rw
-    (
+    rw (
       covariate-is (b .args .optional) (b .args .args) (g .before .before .before .if1 .left) (g .before .if2 .left),
       ← (g .operand-of .ensures (now (b .args .text)) (b .pre .2 .first)),
       c .before .r4 .given .1,

@@ -38,8 +38,7 @@ returns-2 c = λ k e.
     let d = c .before .before .before in
     let g = d .before .before .before .before in
     let b = g .before .before .before .before in
-    rw
-    (
+    rw (
       two-is (b .args .args) (g .before .if1 .left),
       ← (g .operand-of .ensures (now (b .args .text)) (b .pre .2 .first)),
       d .before .before .parameters .given .1,
@@ -53,8 +52,7 @@ returns-3 c = λ k e.
     let d = c .before .before .before in
     let g = d .before .before .before .before in
     let b = g .before .before .before .before in
-    rw
-    (
+    rw (
       two-is (b .args .args) (g .before .if1 .left),
       ← (g .operand-of .ensures (now (b .args .text)) (b .pre .2 .first)),
       d .before .before .parameters .given .1,
@@ -67,8 +65,7 @@ unfolding etaAs operandAs
 returns-4 c = λ k e.
     let g = c .before .before .before in
     let b = g .before .before .before .before in
-    rw
-    (
+    rw (
       two-is (b .args .args) (g .before .if1 .left),
       ← (g .operand-of .ensures (now (b .args .text)) (b .pre .2 .first)),
       c .before .r2 .given .1,

@@ -43,8 +43,7 @@ returns-2 c = λ limit k e.
     let d = c .before .before .before .before in
     let g = d .before .before .before .before in
     let a = g .before .before .before .before .args in
-    rw
-    (
+    rw (
       two-is (a .args) (g .before .if1 .left),
       ← (g .modes-of .ensures),
       d .before .before .mode .given .1,
@@ -58,8 +57,7 @@ unfolding builtAs featureOf modesAs
 returns-3 c = λ limit k e.
     let d = c .before .before .before in
     let g = d .before .before .before .before in
-    rw
-    (
+    rw (
       two-is (g .before .before .before .before .args .args) (g .before .if1 .left),
       ← (g .modes-of .ensures),
       d .before .before .mode .given .1,

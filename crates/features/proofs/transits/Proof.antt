@@ -49,8 +49,7 @@ returns-3 c = λ k e.
     let d = c .before .before .before .before in
     let g = d .before .before .before .before in
     let a = g .before .before .before .before .before .before .args in
-    rw
-    (
+    rw (
       oneOrTwo-is (a .args) (g .before .before .before .if1 .left) (g .before .if2 .left),
       ← (g .transits-of .ensures),
       d .before .before .counts .given .1,
@@ -65,8 +64,7 @@ returns-4 c = λ k e.
     let d = c .before .before .before in
     let g = d .before .before .before .before in
     let a = g .before .before .before .before .before .before .args in
-    rw
-    (
+    rw (
       oneOrTwo-is (a .args) (g .before .before .before .if1 .left) (g .before .if2 .left),
       ← (g .transits-of .ensures),
       d .before .before .counts .given .1,
