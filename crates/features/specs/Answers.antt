@@ -18,7 +18,7 @@ use Rattle.labels.specs.declared.Family.the-variants.{
 }
 use Rattle.reading.specs.Statement as statement
 use Rattle.reading.specs.Statement.{Name, Modes, TransitCounts, Operand, Feature}
-use Rattle.reading.specs.Answer.{Answer, accepted, refused, _>>=_}
+use Rattle.reading.specs.Answer.{Answer, accepted, _>>=_}
 use Rattle.reading.specs.Argument.{Arg, modesOf, operandOf}
 use Rattle.reading.specs.Feature.{Keyword, features, two, explicit, featureOf, knownFeature}
 use Rattle.forms.specs.declared.Args.{Args}

@@ -3,14 +3,13 @@
 ghost use mathlib.Core.Path.{_≡_};
 ghost use mathlib.Core.List.{List};
 ghost use Prim.Native.Nat.{ℕ, _≤_, _<_};
-ghost use lib.ListN.{getElem?};
 ghost use Rattle.tokens.specs.Class.{classTable};
 ghost use Rattle.labels.specs.declared.Family.the-variants.{CovariateEffect};
 ghost use Rattle.labels.specs.Table.{labelTable, keywordTable};
 ghost use Rattle.reading.specs.Statement.{Name as Name·spec, aNumber};
 ghost use Rattle.reading.specs.Argument.{modesOf};
 ghost use Rattle.reading.specs.Feature.{PERIPHERALS, TRANSITS, COVARIATE, ALLOMETRY, INDIRECTEFFECT, IIV, IOV, COVARIANCE};
-ghost use Rattle.reading.specs.Feature.{features, modesOnly, optionally, transitsOf, operatorOf, nameOf, buildFeature};
+ghost use Rattle.reading.specs.Feature.{modesOnly, optionally, transitsOf, operatorOf, nameOf, buildFeature};
 ghost use Rattle.reading.specs.Feature.{mandatory as mandatory·spec, explicit as explicit·spec};
 ghost use Rattle.forms.specs.Items.{nameIn};
 ghost use Rattle.forms.specs.Forms.{argIn, argsIn, modesIn, featureIn};
