@@ -40,29 +40,29 @@ pub enum Built {
     Refused(Refusal),
 }
 
-pub enum SomeModesRead {
+enum SomeModesRead {
     Modes(SomeModes),
     Refused(Refusal),
 }
 
-pub enum SomeNameRead {
+enum SomeNameRead {
     Name(SomeName),
     Refused(Refusal),
 }
 
-pub enum TransitsRead {
+enum TransitsRead {
     Counts(TransitCounts),
     Refused(Refusal),
 }
 
 // The arguments of IIV and IOV.
-pub enum EtaRead {
+enum EtaRead {
     Eta(Operand, Modes),
     Refused(Refusal),
 }
 
 // The features of one argument, which is modes, and no `?`.
-pub enum Alone {
+enum Alone {
     Absorption,
     Elimination,
     Lagtime,
