@@ -19,7 +19,7 @@ use Rattle.reading.specs.Argument.{Arg, modesOf, operandOf}
 use Rattle.reading.specs.Feature.{features, featureAt, keywordOf, explicit, operatorOf, variability, featureOf, COVARIATE}
 use Rattle.forms.specs.declared.Args.{Args}
 use Rattle.forms.specs.Forms.{argIn, argsIn}
-use Rattle.features.specs.Answers.{fourthIn, effectsOf, Eta, etaOf}
+use Rattle.features.specs.Answers.{fourthIn, covariateWith, Eta, etaOf}
 use Rattle.features.proofs.Arity.{threeOrFour-is}
 
 -- IIV and IOV
@@ -43,35 +43,32 @@ variability-eta make k (p ∷ e ∷ []) = go (operandOf p) (modesOf VariabilityE
 variability-eta make k (a ∷ b ∷ c ∷ ds) = refl
 
 -- COVARIATE: the effects are judged before the operator
-module _ (m : Bool) where
-  abbrev pub covariateOf : Answer Operand → Answer Operand → Answer Modes → Answer Operator → Answer Feature
-  covariateOf x y z w = x >>= λ ps. y >>= λ cs. z >>= λ es. w >>= λ op. accepted (Covariate m ps cs es op)
+pub covariate-is :
+    (m : Bool) (xs : Args)
+    → 3 ≤ xs .count
+    → xs .count ≤ 4
+    → (s : List ℕ) (limit : ℕ) (k : Name)
+    → featureOf limit COVARIATE k m (argsIn s xs)
+    ≡ (operandOf (argIn s (xs .first)) >>= λ ps. operandOf (argIn s (xs .second)) >>= λ cs. covariateWith m ps cs (argIn s (xs .third)) (fourthIn s xs))
+unfolding featureOf
+covariate-is m xs h l s limit k =
+    rw (threeOrFour-is xs h l)
+    (go (operandOf (argIn s (xs .first))) (operandOf (argIn s (xs .second))) (modesOf CovariateEffect (argIn s (xs .third))))
+  where
+    e : Arg
+    e = argIn s (xs .third)
 
-  pub covariate-is :
-      (xs : Args)
-      → 3 ≤ xs .count
-      → xs .count ≤ 4
-      → (s : List ℕ) (limit : ℕ) (k : Name)
-      → featureOf limit COVARIATE k m (argsIn s xs)
-      ≡ covariateOf (operandOf (argIn s (xs .first))) (operandOf (argIn s (xs .second))) (effectsOf m (argIn s (xs .third))) (operatorOf (fourthIn s xs))
-  unfolding featureOf
-  covariate-is xs h l s limit k =
-      rw (threeOrFour-is xs h l)
-      (go
-      (operandOf (argIn s (xs .first)))
-      (operandOf (argIn s (xs .second)))
-      (modesOf CovariateEffect (argIn s (xs .third)))
-      (explicit m (argIn s (xs .third)))
-      (operatorOf (fourthIn s xs)))
-    where
-      go :
-          (x y : Answer Operand) (z : Answer Modes) (f : Modes → Answer Modes) (w : Answer Operator)
-          → (x >>= λ ps. y >>= λ cs. z >>= λ fs. f fs >>= λ es. w >>= λ op. accepted (Covariate m ps cs es op))
-          ≡ covariateOf x y (z >>= f) w
-      go (accepted ps) (accepted cs) (accepted fs) f w = refl
-      go (accepted ps) (accepted cs) (refused n o) f w = refl
-      go (accepted ps) (refused n o) z f w = refl
-      go (refused n o) y z f w = refl
+    op : Answer Operator
+    op = operatorOf (fourthIn s xs)
+
+    go :
+        (x y : Answer Operand) (z : Answer Modes)
+        → (x >>= λ ps. y >>= λ cs. z >>= λ fs. explicit m e fs >>= λ es. op >>= λ o. accepted (Covariate m ps cs es o))
+        ≡ (x >>= λ ps. y >>= λ cs. z >>= explicit m e >>= λ es. op >>= λ o. accepted (Covariate m ps cs es o))
+    go (accepted ps) (accepted cs) (accepted fs) = refl
+    go (accepted ps) (accepted cs) (refused n o) = refl
+    go (accepted ps) (refused n o) z = refl
+    go (refused n o) y z = refl
 
 -- a keyword by its place
 pub keyword-found : (w : List ℕ) (i : ℕ) → Place i ≡ foundAs (find w keywords) → keywordOf w ≡ getElem? features i

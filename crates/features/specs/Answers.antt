@@ -18,9 +18,9 @@ use Rattle.labels.specs.declared.Family.the-variants.{
 }
 use Rattle.reading.specs.Statement as statement
 use Rattle.reading.specs.Statement.{Name, Modes, TransitCounts, Operand, Feature}
-use Rattle.reading.specs.Answer.{Answer, accepted, refused, _>>=_}
+use Rattle.reading.specs.Answer.{Answer, accepted, _>>=_}
 use Rattle.reading.specs.Argument.{Arg, modesOf, operandOf}
-use Rattle.reading.specs.Feature.{Keyword, features, two, explicit, featureOf, knownFeature}
+use Rattle.reading.specs.Feature.{Keyword, features, two, explicit, operatorOf, featureOf, knownFeature}
 use Rattle.forms.specs.declared.Args.{Args}
 use Rattle.forms.specs.Forms.{argIn, argsIn, modesIn, transitsIn, operandIn, someModesIn, someNameIn, featureIn}
 use Rattle.checks.specs.Answers.{refusedBy}
@@ -72,6 +72,13 @@ etaOf k args =
 -- the effects of COVARIATE, which are not the mandatory `*`
 abbrev pub effectsOf : Bool → Arg → Answer Modes
 effectsOf m a = modesOf CovariateEffect a >>= explicit m a
+
+-- COVARIATE of parameters and covariates that are read
+abbrev pub covariateWith : Bool → Operand → Operand → Arg → Option Arg → Answer Feature
+covariateWith m ps cs e o = do
+  es ← effectsOf m e
+  op ← operatorOf o
+  accepted (statement.Covariate m ps cs es op)
 
 -- the second of one or two arguments, and the fourth of three or four
 unfoldable pub secondIn : List ℕ → Args → Option Arg

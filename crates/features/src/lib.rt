@@ -3,20 +3,19 @@
 ghost use mathlib.Core.Path.{_≡_};
 ghost use mathlib.Core.List.{List};
 ghost use Prim.Native.Nat.{ℕ, _≤_, _<_};
-ghost use lib.ListN.{getElem?};
 ghost use Rattle.tokens.specs.Class.{classTable};
 ghost use Rattle.labels.specs.declared.Family.the-variants.{CovariateEffect};
 ghost use Rattle.labels.specs.Table.{labelTable, keywordTable};
 ghost use Rattle.reading.specs.Statement.{Name as Name·spec, aNumber};
 ghost use Rattle.reading.specs.Argument.{modesOf};
 ghost use Rattle.reading.specs.Feature.{PERIPHERALS, TRANSITS, COVARIATE, ALLOMETRY, INDIRECTEFFECT, IIV, IOV, COVARIANCE};
-ghost use Rattle.reading.specs.Feature.{features, modesOnly, optionally, transitsOf, operatorOf, nameOf, buildFeature};
+ghost use Rattle.reading.specs.Feature.{modesOnly, optionally, transitsOf, operatorOf, nameOf, buildFeature};
 ghost use Rattle.reading.specs.Feature.{mandatory as mandatory·spec, explicit as explicit·spec};
 ghost use Rattle.forms.specs.Items.{nameIn};
-ghost use Rattle.forms.specs.Forms.{argIn, argsIn, modesIn, featureIn};
+ghost use Rattle.forms.specs.Forms.{argIn, argsIn, modesIn, operandIn, featureIn};
 ghost use Rattle.forms.specs.Fits.{InText, Fits, AllFit};
 ghost use Rattle.checks.specs.Answers.{modesAs, opReadAs};
-ghost use Rattle.features.specs.Answers.{builtAs, someModesAs, someNameAs, transitsAs, etaAs, secondIn, fourthIn, effectsOf, etaOf, familyOf, featureWith, Builds, BuildsKnown};
+ghost use Rattle.features.specs.Answers.{builtAs, someModesAs, someNameAs, transitsAs, etaAs, secondIn, fourthIn, effectsOf, covariateWith, etaOf, familyOf, featureWith, Builds, BuildsKnown};
 use checks::CountsRead;
 use checks::ModesRead;
 use checks::NameRead;
@@ -41,29 +40,29 @@ pub enum Built {
     Refused(Refusal),
 }
 
-pub enum SomeModesRead {
+enum SomeModesRead {
     Modes(SomeModes),
     Refused(Refusal),
 }
 
-pub enum SomeNameRead {
+enum SomeNameRead {
     Name(SomeName),
     Refused(Refusal),
 }
 
-pub enum TransitsRead {
+enum TransitsRead {
     Counts(TransitCounts),
     Refused(Refusal),
 }
 
 // The arguments of IIV and IOV.
-pub enum EtaRead {
+enum EtaRead {
     Eta(Operand, Modes),
     Refused(Refusal),
 }
 
 // The features of one argument, which is modes, and no `?`.
-pub enum Alone {
+enum Alone {
     Absorption,
     Elimination,
     Lagtime,
@@ -307,6 +306,35 @@ fn operator(args: Args) -> OpRead
     checks::op_of(fourth)
 }
 
+// COVARIATE of parameters and covariates that are read.
+fn covariate_with(
+    text: &[u8],
+    classes: &[u8; 256],
+    labels: &[u8; 608],
+    parameters: Operand,
+    covariates: Operand,
+    args: Args,
+    optional: bool,
+) -> Built
+    requires { ⌜ (now classes ≡ classTable) × (now labels ≡ labelTable) × AllFit (now text) args ⌝ }
+    ensures { λ r. ⌜ builtAs (now (text .entry)) r ≡ covariateWith optional (operandIn (now (text .entry)) parameters) (operandIn (now (text .entry)) covariates) (argIn (now (text .entry)) (args .third)) (fourthIn (now (text .entry)) args) ⌝ }
+{
+    let third = args.third;
+    match effects_of(text, classes, labels, third, optional) {
+        ModesRead::Modes(effects) => match operator(args) {
+            OpRead::Op(op) => Built::Feature(Feature::Covariate {
+                optional,
+                parameters,
+                covariates,
+                effects,
+                op,
+            }),
+            OpRead::Refused(r) => Built::Refused(r),
+        },
+        ModesRead::Refused(r) => Built::Refused(r),
+    }
+}
+
 fn covariate(
     text: &[u8],
     classes: &[u8; 256],
@@ -314,10 +342,9 @@ fn covariate(
     args: Args,
     optional: bool,
     at: usize,
-    limit: u32,
 ) -> Built
     requires { ⌜ (now classes ≡ classTable) × (now labels ≡ labelTable) × AllFit (now text) args ⌝ }
-    ensures { λ r. ⌜ Builds (now (text .entry)) limit COVARIATE optional at args r ⌝ }
+    ensures { λ r. ⌜ ((limit : ℕ) → Builds (now (text .entry)) limit COVARIATE optional at args r) ⌝ }
 {
     if args.count < 3 {
         return Built::Refused(wrong_number(at));
@@ -327,28 +354,17 @@ fn covariate(
     }
     let first = args.first;
     let second = args.second;
-    let third = args.third;
     match checks::operand_of(first) {
         OperandRead::Operand(parameters) => match checks::operand_of(second) {
-            OperandRead::Operand(covariates) => match effects_of(
+            OperandRead::Operand(covariates) => covariate_with(
                 text,
                 classes,
                 labels,
-                third,
+                parameters,
+                covariates,
+                args,
                 optional,
-            ) {
-                ModesRead::Modes(effects) => match operator(args) {
-                    OpRead::Op(op) => Built::Feature(Feature::Covariate {
-                        optional,
-                        parameters,
-                        covariates,
-                        effects,
-                        op,
-                    }),
-                    OpRead::Refused(r) => Built::Refused(r),
-                },
-                ModesRead::Refused(r) => Built::Refused(r),
-            },
+            ),
             OperandRead::Refused(r) => Built::Refused(r),
         },
         OperandRead::Refused(r) => Built::Refused(r),
@@ -555,7 +571,7 @@ fn build_early(
         2 => peripherals(text, classes, labels, args, optional, at, limit),
         3 => transits(text, classes, labels, args, optional, at, limit),
         4 => modes_alone(text, classes, labels, Alone::Lagtime, args, optional, at),
-        5 => covariate(text, classes, labels, args, optional, at, limit),
+        5 => covariate(text, classes, labels, args, optional, at),
         _ => allometry(args, optional, at),
     }
 }

@@ -46,7 +46,7 @@ unfolding featureOf
 returns-5 c = λ k e. rw (c .before .match .keys5) (c .modes-alone3 .ensures k e)
 
 returns-6 : tie.Need-returns-6
-returns-6 c = λ k e. rw (c .before .match .keys6) (c .covariate .ensures k e)
+returns-6 c = λ k e. rw (c .before .match .keys6) (c .covariate .ensures (c .before .before .before .args .limit) k e)
 
 returns-7 : tie.Need-returns-7
 returns-7 c = λ k e.

@@ -1,8 +1,7 @@
--- `features::covariate` meets its contract, argument by argument. Assumes nothing.
+-- `features::covariate` meets its contract. Assumes nothing.
 use denote.Ref.{now}
 use Rattle.reading.specs.Feature.{featureOf}
-use Rattle.forms.specs.Forms.{featureIn}
-use Rattle.checks.specs.Answers.{modesAs, operandAs, opReadAs}
+use Rattle.checks.specs.Answers.{operandAs}
 use Rattle.features.specs.Answers.{builtAs}
 use Rattle.features.proofs.Arity.{threeOrFour-less, threeOrFour-more}
 use Rattle.features.proofs.Building.{covariate-is}
@@ -15,14 +14,14 @@ wrong-number-requires c κs = search needs
 
 returns : tie.Need-returns
 unfolding builtAs featureOf
-returns c = λ k e. rw (c .wrong-number .ensures, threeOrFour-less (c .before .before .before .before .args .args) (c .before .if1 .taken), e)
+returns c = λ limit k e. rw (c .wrong-number .ensures, threeOrFour-less (c .before .before .before .before .args .args) (c .before .if1 .taken), e)
 
 wrong-number-requires-2 : tie.Need-wrong-number-requires-2
 wrong-number-requires-2 c κs = search needs
 
 returns-2 : tie.Need-returns-2
 unfolding builtAs featureOf
-returns-2 c = λ k e. rw (c .wrong-number2 .ensures, threeOrFour-more (c .before .before .before .before .before .before .args .args) (c .before .if2 .taken), e)
+returns-2 c = λ limit k e. rw (c .wrong-number2 .ensures, threeOrFour-more (c .before .before .before .before .before .before .args .args) (c .before .if2 .taken), e)
 
 operand-of-requires : tie.Need-operand-of-requires
 operand-of-requires c κs = search needs
@@ -36,17 +35,8 @@ operand-of-requires-2 c κs = search needs
 enum-known-covariates : tie.Need-enum-known-covariates
 enum-known-covariates c = search needs
 
-effects-of-requires : tie.Need-effects-of-requires
-effects-of-requires c κs = search needs
-
-enum-known-effects : tie.Need-enum-known-effects
-enum-known-effects c = search needs
-
-operator-requires : tie.Need-operator-requires
-operator-requires c κs = search needs
-
-enum-known-op : tie.Need-enum-known-op
-enum-known-op c = search needs
+covariate-with-requires : tie.Need-covariate-with-requires
+covariate-with-requires c κs = search needs
 
 enum-known-r : tie.Need-enum-known-r
 enum-known-r c = search needs
@@ -54,18 +44,10 @@ enum-known-r c = search needs
 enum-known-r-2 : tie.Need-enum-known-r-2
 enum-known-r-2 c = search needs
 
-enum-known-r-3 : tie.Need-enum-known-r-3
-enum-known-r-3 c = search needs
-
-enum-known-r-4 : tie.Need-enum-known-r-4
-enum-known-r-4 c = search needs
-
 returns-3 : tie.Need-returns-3
-unfolding builtAs featureIn modesAs operandAs opReadAs
-returns-3 c = λ k e.
-    let o = c .before .before .before in
-    let f = o .before .before .before .before in
-    let d = f .before .before .before .before in
+unfolding operandAs
+returns-3 c = λ limit k e.
+    let d = c .before .before .before .before in
     let g = d .before .before .before .before in
     let b = g .before .before .before .before .before .before in
     rw (
@@ -73,53 +55,13 @@ returns-3 c = λ k e.
       ← (g .operand-of .ensures (now (b .args .text)) (b .pre .2 .first)),
       d .before .before .parameters .given .1,
       ← (d .operand-of2 .ensures (now (b .args .text)) (b .pre .2 .second)),
-      f .before .before .covariates .given .1,
-      ← (f .effects-of .ensures),
-      o .before .before .effects .given .1,
-      ← (o .operator .ensures (now (b .args .text))),
-      c .before .op .given .1,
+      c .before .before .covariates .given .1,
     )
+    (c .covariate-with .ensures)
 
 returns-4 : tie.Need-returns-4
-unfolding builtAs modesAs operandAs opReadAs
-returns-4 c = λ k e.
-    let o = c .before .before .before in
-    let f = o .before .before .before .before in
-    let d = f .before .before .before .before in
-    let g = d .before .before .before .before in
-    let b = g .before .before .before .before .before .before in
-    rw (
-      covariate-is (b .args .optional) (b .args .args) (g .before .before .before .if1 .left) (g .before .if2 .left),
-      ← (g .operand-of .ensures (now (b .args .text)) (b .pre .2 .first)),
-      d .before .before .parameters .given .1,
-      ← (d .operand-of2 .ensures (now (b .args .text)) (b .pre .2 .second)),
-      f .before .before .covariates .given .1,
-      ← (f .effects-of .ensures),
-      o .before .before .effects .given .1,
-      ← (o .operator .ensures (now (b .args .text))),
-      c .before .r .given .1,
-    )
-
-returns-5 : tie.Need-returns-5
-unfolding builtAs modesAs operandAs
-returns-5 c = λ k e.
-    let f = c .before .before .before in
-    let d = f .before .before .before .before in
-    let g = d .before .before .before .before in
-    let b = g .before .before .before .before .before .before in
-    rw (
-      covariate-is (b .args .optional) (b .args .args) (g .before .before .before .if1 .left) (g .before .if2 .left),
-      ← (g .operand-of .ensures (now (b .args .text)) (b .pre .2 .first)),
-      d .before .before .parameters .given .1,
-      ← (d .operand-of2 .ensures (now (b .args .text)) (b .pre .2 .second)),
-      f .before .before .covariates .given .1,
-      ← (f .effects-of .ensures),
-      c .before .r2 .given .1,
-    )
-
-returns-6 : tie.Need-returns-6
 unfolding builtAs operandAs
-returns-6 c = λ k e.
+returns-4 c = λ limit k e.
     let d = c .before .before .before in
     let g = d .before .before .before .before in
     let b = g .before .before .before .before .before .before in
@@ -128,18 +70,18 @@ returns-6 c = λ k e.
       ← (g .operand-of .ensures (now (b .args .text)) (b .pre .2 .first)),
       d .before .before .parameters .given .1,
       ← (d .operand-of2 .ensures (now (b .args .text)) (b .pre .2 .second)),
-      c .before .r3 .given .1,
+      c .before .r .given .1,
     )
 
-returns-7 : tie.Need-returns-7
+returns-5 : tie.Need-returns-5
 unfolding builtAs operandAs
-returns-7 c = λ k e.
+returns-5 c = λ limit k e.
     let g = c .before .before .before in
     let b = g .before .before .before .before .before .before in
     rw (
       covariate-is (b .args .optional) (b .args .args) (g .before .before .before .if1 .left) (g .before .if2 .left),
       ← (g .operand-of .ensures (now (b .args .text)) (b .pre .2 .first)),
-      c .before .r4 .given .1,
+      c .before .r2 .given .1,
     )
 
 pub covariate-spec : {M : Type 1} → statement M
@@ -154,16 +96,9 @@ covariate-spec =
     enum-known-parameters
     operand-of-requires-2
     enum-known-covariates
-    effects-of-requires
-    enum-known-effects
-    operator-requires
-    enum-known-op
+    covariate-with-requires
     enum-known-r
     enum-known-r-2
-    enum-known-r-3
-    enum-known-r-4
     returns-3
     returns-4
-    returns-5
-    returns-6
-    returns-7)
+    returns-5)

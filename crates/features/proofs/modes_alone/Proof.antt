@@ -1,5 +1,4 @@
 -- `features::modes_alone` meets its contract. Assumes nothing.
-use mathlib.Core.Path.{_∙_}
 use denote.Ref.{now}
 use Rattle.checks.specs.Answers.{modesAs}
 use Rattle.features.specs.Answers.{builtAs}
