@@ -85,11 +85,11 @@ module _ {s : List ℕ} {o : ℕ} {t : lexer.Token} (here : EntryAt s o t) where
   entry-further ts (answer.Done n) f = (omega (arith, here .reads .ahead, here .reads .wide, f .0), f .1)
   entry-further ts (answer.Refused r) f = f
 
-  pub entry-listed : (r : Entry) → EntryListed s o r
+  pub entry-listed : (count : ℕ) (r : Entry) → count < 64 → EntryListed s o count r
   unfolding EntryListed
-  entry-listed (answer.More n) = one-listed
-  entry-listed (answer.Done n) = one-listed
-  entry-listed (answer.Refused r) = tt
+  entry-listed count (answer.More n) h = (one-listed, h)
+  entry-listed count (answer.Done n) h = (one-listed, h)
+  entry-listed count (answer.Refused r) h = tt
 
 -- one entry more than so many
 pub entries-more : (n : ℕ) (ts : Tokens) → listed n ts ≡ true → entries (suc n) ts ≡ entries n ts ++ entries 1 (afterEntries n ts)

@@ -66,11 +66,11 @@ EntryFurther s o ts (entry.More n) = (o < n .at) × (n .at ≤ length s) × (ts 
 EntryFurther s o ts (entry.Done n) = (o < n .at) × (n .at ≤ length s)
 EntryFurther s o ts (entry.Refused r) = Unit {0}
 
--- the entry itself is a word or a number
-unfoldable pub EntryListed : List ℕ → ℕ → Entry → Type 0
-EntryListed s o (entry.More n) = listed 1 (tokensFrom s o) ≡ true
-EntryListed s o (entry.Done n) = listed 1 (tokensFrom s o) ≡ true
-EntryListed s o (entry.Refused r) = Unit {0}
+-- the entry itself is a word or a number, and not the 65th
+unfoldable pub EntryListed : List ℕ → ℕ → ℕ → Entry → Type 0
+EntryListed s o count (entry.More n) = (listed 1 (tokensFrom s o) ≡ true) × (count < 64)
+EntryListed s o count (entry.Done n) = (listed 1 (tokensFrom s o) ≡ true) × (count < 64)
+EntryListed s o count (entry.Refused r) = Unit {0}
 
 -- what follows an argument
 unfoldable pub afterThen : ℕ → List ℕ → Call → argument.Arg → After → One

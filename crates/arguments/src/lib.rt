@@ -174,7 +174,7 @@ fn read_entry(text: &[u8], classes: &[u8; 256], at: usize, count: usize) -> Entr
         ≡ entryThen limit (now (text .entry)) c p (items ++ entries 1 (tokensFrom (now (text .entry)) at)) r)
         ⌝ }
     ensures { λ r. ⌜ EntryFurther (now (text .entry)) at (rest (rest (tokensFrom (now (text .entry)) at))) r ⌝ }
-    ensures { λ r. ⌜ EntryListed (now (text .entry)) at r ⌝ }
+    ensures { λ r. ⌜ EntryListed (now (text .entry)) at count r ⌝ }
 {
     let c = Cursor { at };
     let token = c.token(text, classes);

@@ -15,6 +15,7 @@ use Rattle.reading.specs.Statement.{Item}
 use Rattle.forms.specs.declared.Items.{Items}
 use Rattle.forms.specs.Items.{tokensFrom, entries, rest, itemsIn, isEntry, listed}
 use Rattle.forms.specs.Fits.{Listed}
+use Rattle.forms.proofs.Lists.{items-are}
 use Rattle.checks.specs.declared.Item as checked
 use Rattle.checks.specs.Answers.{ItemHere}
 
@@ -40,7 +41,7 @@ entries-some (suc n) (bad o) h k e = false≢true h
 entries-some (suc n) (t ▸ ts) h k e = let z : _≡_ {A = ℕ} 0 1 = cc in omega arith
 
 pub listed-some : (s : List ℕ) (is : Items) → Listed s is → (is .count ≡ 0 → ⊥) → itemsIn s is ≡ [] → ⊥
-listed-some s is = entries-some (is .count) (tokensFrom s (is .first))
+listed-some s is l k e = entries-some (is .count) (tokensFrom s (is .first)) (l .are) k (sym (items-are s is l) ∙ e)
 
 -- the tokens after the one at an offset start where its answer says
 pub behind : (s : List ℕ) (o : ℕ) (t : kinds.Token) → Known s o t → rest (tokensFrom s o) ≡ tokensFrom s (t .next .at)

@@ -16,9 +16,10 @@ use Rattle.forms.specs.Items.{tokensFrom, nameIn, entries, listed}
 abbrev pub InText : List ℕ → Name → Type 0
 InText s n = n .offset + n .length ≤ length s
 
--- a list's entries are words and numbers
-abbrev pub Listed : List ℕ → Items → Type 0
-Listed s is = listed (is .count) (tokensFrom s (is .first)) ≡ true
+-- a list's entries are words and numbers, at most 64
+pub record Listed (s : List ℕ) (is : Items) : Type 0 where
+  pub are : listed (is .count) (tokensFrom s (is .first)) ≡ true
+  pub few : is .count ≤ 64
 
 -- a word or number alone is the one entry of a list that starts with it
 pub record Stands (s : List ℕ) (k : Kind) (n : Name) : Type 0 where

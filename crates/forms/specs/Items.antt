@@ -1,7 +1,8 @@
 -- The entries of a list that stays in the text: every other token from its start on, as many as there are. Between two stands a `,`.
 use Prim.Native.Nat.{ℕ, zero, suc}
-use mathlib.Core.Bool.{Bool, true, false, _&&_}
+use mathlib.Core.Bool.{Bool, true, false, cond, _&&_}
 use mathlib.Core.List.{List, [], _∷_}
+use lib.Dec.{leb}
 use lib.ListN.{take, drop}
 use Rattle.tokens.specs.Token.{Shape, word, number, mark, Token, Tokens, finish, bad, _▸_}
 use Rattle.tokens.specs.Lex.{tokensAt}
@@ -42,10 +43,6 @@ unfoldable pub afterEntries : ℕ → Tokens → Tokens
 afterEntries zero ts = ts
 afterEntries (suc n) ts = afterEntries n (rest (rest ts))
 
--- a list's entries in a text
-abbrev pub itemsIn : List ℕ → list.Items → List Item
-itemsIn s is = entries (is .count) (tokensFrom s (is .first))
-
 -- the first token is a word or a number
 abbrev pub isEntry : Shape → Bool
 isEntry (word w) = true
@@ -58,3 +55,8 @@ listed zero ts = true
 listed (suc n) finish = false
 listed (suc n) (bad o) = false
 listed (suc n) (t ▸ ts) = isEntry (t .shape) && listed n (rest ts)
+
+-- a list's entries in a text; a list that is none, or has over 64, has no entries
+unfoldable pub itemsIn : List ℕ → list.Items → List Item
+itemsIn s is =
+    cond (listed (is .count) (tokensFrom s (is .first)) && leb (is .count) 64) (entries (is .count) (tokensFrom s (is .first))) []

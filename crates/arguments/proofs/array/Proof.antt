@@ -14,9 +14,10 @@ use Rattle.tokens.specs.Token.{Tokens}
 use Rattle.reading.specs.Statement.{Item}
 use Rattle.reading.specs.Argument as argument
 use Rattle.reading.specs.Syntax.{Call, turn, arrayOpen, item, argumentRead}
-use Rattle.forms.specs.Items.{tokensFrom, rest, entries, afterEntries, listed}
+use Rattle.forms.specs.Items.{tokensFrom, rest, entries, afterEntries, listed, itemsIn}
 use Rattle.forms.specs.Forms.{argIn}
-use Rattle.forms.specs.Fits.{Fits}
+use Rattle.forms.specs.Fits.{Listed, Fits}
+use Rattle.forms.proofs.Lists.{items-are}
 use Rattle.tokens.proofs.Views.{Known, known, known-mark}
 use Rattle.arguments.specs.declared.Entry.{Entry}
 use Rattle.arguments.specs.declared.Entry.the-variants.{More, Done, Refused}
@@ -72,12 +73,12 @@ token-requires c κs = c .before .pre
 
 -- src/lib.rt:228:9
 returns : tie.Need-returns Inv-loop μ-loop
-unfolding turn argThen ArgFurther argIn Fits entries listed
+unfolding turn argThen ArgFurther argIn Fits itemsIn entries listed
 returns c =
     let d = c .before .before .before in
     let r = known-mark (here d) 93 (c .if1 .taken) (lit≤ tt) in (
       (λ limit call. read-token limit _ (arrayOpen call (d .before .before .args .bracket)) _ _ _ r),
-      (omega (arith, r .ahead, r .wide), r .within, refl),
+      (omega (arith, r .ahead, r .wide), r .within, record { are = refl; few = lit≤ tt }),
     )
 
 -- src/lib.rt:241:5
@@ -138,12 +139,12 @@ loop-again c =
     let p = l .before .before .before .before .before .before .args .bracket in
     let o = l .before .before .before .before .before .before .args .at in
     let f = subst (EntryFurther s (l .loop .cur) _) (x .1) (d .read-entry .ensures .1 .0) in
-    let e = subst (EntryListed s (l .loop .cur)) (x .1) (d .read-entry .ensures .1 .1) in
+    let e = subst (EntryListed s (l .loop .cur) (l .loop .n)) (x .1) (d .read-entry .ensures .1 .1) in
     let g = l .loop .inv in
     let n = l .loop .n in
     let cur = l .loop .cur in
     record {
-      are = more-listed s p o n cur g (d .read-entry .result) (d .read-entry .ensures .0) e;
+      are = more-listed s p o n cur g (d .read-entry .result) (d .read-entry .ensures .0) (e .0);
       behind =
           ap (λ (k : ℕ). afterEntries k (tokensFrom s o)) (add-one n)
           ∙ after-more n (tokensFrom s o)
@@ -154,7 +155,7 @@ loop-again c =
       same = λ limit call.
           on s p o n cur g (d .read-entry .result) (d .read-entry .ensures .0) limit call
           ∙ ap (entryThen limit s call p (entries (l .loop .n) (tokensFrom s o) ++ entries 1 (tokensFrom s (l .loop .cur)))) (x .1)
-          ∙ ap (λ (items : List Item). readIn limit s (item call p items) (x .0 .0 .at)) (all s p o n cur g (d .read-entry .result) (d .read-entry .ensures .0) e);
+          ∙ ap (λ (items : List Item). readIn limit s (item call p items) (x .0 .0 .at)) (all s p o n cur g (d .read-entry .result) (d .read-entry .ensures .0) (e .0));
     }
 
 -- src/lib.rt:247:25
@@ -185,15 +186,18 @@ returns-2 c =
     let p = l .before .before .before .before .before .before .args .bracket in
     let o = l .before .before .before .before .before .before .args .at in
     let f = subst (EntryFurther s (l .loop .cur) _) (x .1) (d .read-entry .ensures .1 .0) in
-    let e = subst (EntryListed s (l .loop .cur)) (x .1) (d .read-entry .ensures .1 .1) in
+    let e = subst (EntryListed s (l .loop .cur) (l .loop .n)) (x .1) (d .read-entry .ensures .1 .1) in
     let g = l .loop .inv in
     let n = l .loop .n in
-    let cur = l .loop .cur in (
+    let cur = l .loop .cur in
+    let whole : Listed s (record { first = o; count = n + 1 }) =
+      record { are = more-listed s p o n cur g (d .read-entry .result) (d .read-entry .ensures .0) (e .0); few = omega (arith, e .1) } in (
       (λ limit call.
           on s p o n cur g (d .read-entry .result) (d .read-entry .ensures .0) limit call
           ∙ ap (entryThen limit s call p (entries (l .loop .n) (tokensFrom s o) ++ entries 1 (tokensFrom s (l .loop .cur)))) (x .1)
-          ∙ ap (λ (items : List Item). readIn limit s (argumentRead call (argument.array p items)) (x .0 .0 .at)) (all s p o n cur g (d .read-entry .result) (d .read-entry .ensures .0) e)),
-      (omega (arith, f .0, g .past), f .1, more-listed s p o n cur g (d .read-entry .result) (d .read-entry .ensures .0) e),
+          ∙ ap (λ (items : List Item). readIn limit s (argumentRead call (argument.array p items)) (x .0 .0 .at))
+            (all s p o n cur g (d .read-entry .result) (d .read-entry .ensures .0) (e .0) ∙ sym (items-are s _ whole))),
+      (omega (arith, f .0, g .past), f .1, whole),
     )
 
 -- src/lib.rt:259:28

@@ -71,7 +71,7 @@ returns-3 c =
         entry-further (stands b) (rest (rest (tokensFrom s o))) (c .after-entry .result)
             (subst (λ (ts : Tokens). EntryFurther s (b .before .before .before .token .result .next .at) (rest ts) (c .after-entry .result)) (sym (behind (stands b)))
             (c .after-entry .ensures .1)),
-        entry-listed (stands b) (c .after-entry .result),
+        entry-listed (stands b) _ (c .after-entry .result) (c .before .if2 .left),
       ),
     )
 

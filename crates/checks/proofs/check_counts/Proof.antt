@@ -4,6 +4,7 @@ use native.Mathlib.Omega.{arith}
 use denote.Ref.{now}
 use Rattle.reading.specs.Argument.{countList}
 use Rattle.checks.specs.Answers.{checkedAs, valuesIn}
+use Rattle.forms.proofs.Lists.{items-are}
 use Rattle.checks.proofs.Judging.{Left, left-none, left-one, left-refused, left-next, count-fine, count-refused, count-word}
 use borrow.Author.Needs.{needs}
 use borrow.Author.Tests.{not-true, not-false}
@@ -17,7 +18,7 @@ abbrev μ-loop : tie.MeasureT-loop
 μ-loop text classes at limit left₀ o₀ left o = left
 
 loop-holds : tie.Need-loop-holds Inv-loop μ-loop
-loop-holds c = record { entered = c .before .pre .1; whole = λ r e. e }
+loop-holds c = record { entered = c .before .pre .1 .are; whole = λ r e. e }
 
 item-at-requires : tie.Need-item-at-requires Inv-loop μ-loop
 item-at-requires c κs = (c .before .before .before .pre .0, left-one (c .before .loop .inv) (c .loop-test .taken))
@@ -29,7 +30,7 @@ returns : tie.Need-returns Inv-loop μ-loop
 returns c =
     let i = c .before .before .before in
     let a = i .before .before .before .before .args in
-    rw (c .wrong .ensures)
+    rw (items-are _ _ (i .before .before .before .before .pre .1), c .wrong .ensures)
     (left-refused (i .before .before .loop .inv) (i .before .loop-test .taken) (i .item-at .ensures) _
     (count-word (a .limit) (a .at) (now (a .text)) (i .item-at .result) (not-true _ (c .before .if1 .taken))))
 
@@ -44,9 +45,10 @@ returns-2 c =
     let m = c .before .before in
     let i = m .before .before .before .before in
     let a = i .before .before .before .before .args in
-    left-refused (i .before .before .loop .inv) (i .before .loop-test .taken) (i .item-at .ensures) _
+    rw (items-are _ _ (i .before .before .before .before .pre .1))
+    (left-refused (i .before .before .loop .inv) (i .before .loop-test .taken) (i .item-at .ensures) _
     (count-refused (a .limit) (a .at) (now (a .text)) (i .item-at .result) (not-false _ (m .before .before .if1 .left))
-    (sym (c .enum-told .given .1) ∙ m .count-at .ensures))
+    (sym (c .enum-told .given .1) ∙ m .count-at .ensures)))
 
 enum-told-2 : tie.Need-enum-told-2 Inv-loop μ-loop
 enum-told-2 c = search needs
@@ -72,7 +74,7 @@ loop-again c =
 
 returns-3 : tie.Need-returns-3 Inv-loop μ-loop
 unfolding countList checkedAs
-returns-3 c = left-none (c .before .loop .inv) (omega arith) refl
+returns-3 c = rw (items-are _ _ (c .before .before .before .pre .1)) (left-none (c .before .loop .inv) (omega arith) refl)
 
 pub check-counts-spec : {M : Type 1} → statement M
 check-counts-spec =

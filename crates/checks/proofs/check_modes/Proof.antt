@@ -4,6 +4,7 @@ use native.Mathlib.Omega.{arith}
 use denote.Ref.{now}
 use Rattle.reading.specs.Argument.{modeList}
 use Rattle.forms.specs.Forms.{placesIn}
+use Rattle.forms.proofs.Lists.{items-are}
 use Rattle.checks.proofs.Judging.{Left, left-none, left-one, left-refused, left-next, mode-fine, mode-refused}
 use Rattle.checks.specs.Answers.{checkedAs}
 use borrow.Author.Needs.{needs}
@@ -17,7 +18,7 @@ abbrev μ-loop : tie.MeasureT-loop
 μ-loop text classes labels family left₀ at₀ left at = left
 
 loop-holds : tie.Need-loop-holds Inv-loop μ-loop
-loop-holds c = record { entered = c .before .pre .2; whole = λ r e. e }
+loop-holds c = record { entered = c .before .pre .2 .are; whole = λ r e. e }
 
 item-at-requires : tie.Need-item-at-requires Inv-loop μ-loop
 item-at-requires c κs = (c .before .before .before .pre .0, left-one (c .before .loop .inv) (c .loop-test .taken))
@@ -33,8 +34,9 @@ returns c =
     let m = c .before .before in
     let i = m .before .before in
     let a = i .before .before .before .before .args in
-    left-refused (i .before .before .loop .inv) (i .before .loop-test .taken) (i .item-at .ensures) _
-    (mode-refused (a .family) (now (a .text)) (i .item-at .result) (sym (c .enum-told .given .1) ∙ m .mode-at .ensures))
+    rw (items-are _ _ (i .before .before .before .before .pre .2))
+    (left-refused (i .before .before .loop .inv) (i .before .loop-test .taken) (i .item-at .ensures) _
+    (mode-refused (a .family) (now (a .text)) (i .item-at .result) (sym (c .enum-told .given .1) ∙ m .mode-at .ensures)))
 
 enum-told-2 : tie.Need-enum-told-2 Inv-loop μ-loop
 enum-told-2 c = search needs
@@ -60,7 +62,7 @@ loop-again c =
 
 returns-2 : tie.Need-returns-2 Inv-loop μ-loop
 unfolding modeList checkedAs
-returns-2 c = left-none (c .before .loop .inv) (omega arith) refl
+returns-2 c = rw (items-are _ _ (c .before .before .before .pre .2)) (left-none (c .before .loop .inv) (omega arith) refl)
 
 pub check-modes-spec : {M : Type 1} → statement M
 check-modes-spec =

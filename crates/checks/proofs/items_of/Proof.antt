@@ -4,6 +4,7 @@ use Rattle.forms.specs.Items.{entries}
 use Rattle.forms.specs.Forms.{argIn}
 use Rattle.forms.specs.Fits.{Fits}
 use Rattle.checks.specs.Answers.{itemsAs}
+use Rattle.forms.proofs.Lists.{no-items, stands-one}
 use Rattle.checks.proofs.Entries.{listed-some}
 use Rattle.checks.proofs.Arguments.{items-array}
 use borrow.Author.Needs.{needs}
@@ -48,7 +49,9 @@ wrong-requires-5 c κs = search needs
 
 returns : tie.Need-returns
 unfolding itemsAs itemsOf argIn entries
-returns c = λ s h. rw (c .before .before .before .before .arg7 .given .1, c .wrong5 .ensures, c .before .if1 .taken)
+returns c = λ s h.
+    let e = c .before .before .before .before .arg7 .given in
+    rw (e .1, c .wrong5 .ensures, no-items s (e .0 .1 .0) (c .before .if1 .taken))
 
 returns-2 : tie.Need-returns-2
 unfolding itemsAs itemsOf argIn
@@ -64,11 +67,11 @@ returns-4 c = λ s h. rw (c .before .before .arg3 .given .1, c .wrong3 .ensures)
 
 returns-5 : tie.Need-returns-5
 unfolding itemsAs itemsOf argIn Fits
-returns-5 c = λ s h. let e = c .before .arg4 .given in rw (e .1, (rw (e .1) at h) .alone)
+returns-5 c = λ s h. let e = c .before .arg4 .given in rw (e .1, stands-one (rw (e .1) at h))
 
 returns-6 : tie.Need-returns-6
 unfolding itemsAs itemsOf argIn Fits
-returns-6 c = λ s h. let e = c .before .arg5 .given in rw (e .1, (rw (e .1) at h) .alone)
+returns-6 c = λ s h. let e = c .before .arg5 .given in rw (e .1, stands-one (rw (e .1) at h))
 
 returns-7 : tie.Need-returns-7
 unfolding itemsAs itemsOf argIn

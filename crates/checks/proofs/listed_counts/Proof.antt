@@ -6,6 +6,7 @@ use Rattle.reading.specs.Argument.{countsOf}
 use Rattle.forms.specs.Items.{entries, itemsIn}
 use Rattle.forms.specs.Forms.{countsIn}
 use Rattle.checks.specs.Answers.{checkedAs, countsAs}
+use Rattle.forms.proofs.Lists.{no-items}
 use Rattle.checks.proofs.Entries.{listed-some}
 use Rattle.checks.proofs.Arguments.{counts-array}
 use borrow.Author.Needs.{needs}
@@ -23,7 +24,9 @@ wrong-requires c κs = search needs
 
 returns : tie.Need-returns
 unfolding countsAs countsOf entries
-returns c = rw (c .wrong .ensures, c .before .if1 .taken)
+returns c =
+    let a = c .before .before .before .before .args in
+    rw (c .wrong .ensures, no-items (now (a .text)) (a .items) (c .before .if1 .taken))
 
 check-counts-requires : tie.Need-check-counts-requires
 check-counts-requires c κs = search needs

@@ -6,6 +6,7 @@ use Rattle.forms.specs.Items.{entries}
 use Rattle.forms.specs.Forms.{argIn, modesIn}
 use Rattle.forms.specs.Fits.{Fits}
 use Rattle.checks.specs.Answers.{modesAs}
+use Rattle.forms.proofs.Lists.{no-items, one-listed, stands-one}
 use Rattle.checks.proofs.Entries.{listed-some}
 use Rattle.checks.proofs.Arguments.{modes-alone, modes-array}
 use borrow.Author.Needs.{needs}
@@ -34,7 +35,7 @@ listed-modes-requires : tie.Need-listed-modes-requires
 unfolding Fits
 listed-modes-requires c κs =
     let p = c .before .before .before .before .pre in
-    (p .0, p .1, (rw (c .before .arg3 .given .1) at (p .2)) .one)
+    (p .0, p .1, one-listed _ _ ((rw (c .before .arg3 .given .1) at (p .2)) .one))
 
 enum-known-arg-4 : tie.Need-enum-known-arg-4
 enum-known-arg-4 c = search needs
@@ -56,7 +57,9 @@ wrong-requires-5 c κs = search needs
 
 returns : tie.Need-returns
 unfolding modesAs modesOf argIn entries
-returns c = rw (c .before .before .before .before .arg6 .given .1, c .wrong5 .ensures, c .before .if1 .taken)
+returns c =
+    let e = c .before .before .before .before .arg6 .given in
+    rw (e .1, c .wrong5 .ensures, no-items _ (e .0 .1 .0) (c .before .if1 .taken))
 
 listed-modes-requires-2 : tie.Need-listed-modes-requires-2
 unfolding Fits
@@ -84,7 +87,7 @@ returns-5 c =
     let a = d .before .before .before .args in
     let e = d .arg3 .given in
     let w = rw (e .1) at (d .before .before .before .pre .2) in
-    c .listed-modes .ensures ∙ rw (e .1, modes-alone (a .family), w .alone)
+    c .listed-modes .ensures ∙ rw (e .1, modes-alone (a .family), stands-one w)
 
 returns-6 : tie.Need-returns-6
 unfolding modesAs modesOf argIn

@@ -4,6 +4,7 @@ use Rattle.forms.specs.Items.{entries}
 use Rattle.forms.specs.Forms.{argIn, operandIn}
 use Rattle.forms.specs.Fits.{Fits}
 use Rattle.checks.specs.Answers.{operandAs}
+use Rattle.forms.proofs.Lists.{no-items, stands-one}
 use Rattle.checks.proofs.Entries.{listed-some}
 use Rattle.checks.proofs.Arguments.{operand-array}
 use borrow.Author.Needs.{needs}
@@ -42,7 +43,9 @@ wrong-requires-3 c κs = search needs
 
 returns : tie.Need-returns
 unfolding operandAs operandIn operandOf argIn entries
-returns c = λ s h. rw (c .before .before .before .before .arg6 .given .1, c .wrong3 .ensures, c .before .if1 .taken)
+returns c = λ s h.
+    let e = c .before .before .before .before .arg6 .given in
+    rw (e .1, c .wrong3 .ensures, no-items s (e .0 .1 .0) (c .before .if1 .taken))
 
 returns-2 : tie.Need-returns-2
 unfolding operandAs operandIn operandOf argIn
@@ -58,11 +61,11 @@ returns-4 c = λ s h. rw (c .before .arg2 .given .1)
 
 returns-5 : tie.Need-returns-5
 unfolding operandAs operandIn operandOf argIn Fits
-returns-5 c = λ s h. let e = c .before .arg3 .given in rw (e .1, (rw (e .1) at h) .alone)
+returns-5 c = λ s h. let e = c .before .arg3 .given in rw (e .1, stands-one (rw (e .1) at h))
 
 returns-6 : tie.Need-returns-6
 unfolding operandAs operandIn operandOf argIn Fits
-returns-6 c = λ s h. let e = c .before .arg4 .given in rw (e .1, (rw (e .1) at h) .alone)
+returns-6 c = λ s h. let e = c .before .arg4 .given in rw (e .1, stands-one (rw (e .1) at h))
 
 returns-7 : tie.Need-returns-7
 unfolding operandAs operandIn operandOf argIn
