@@ -32,5 +32,5 @@ count-joins limit a b n m e f h g =
     let k : length (x .0) ≡ n = how-many n (readText limit a) (x .0) e (x .1) in
     let l : length (y .0) ≡ m = how-many m (readText limit b) (y .0) f (y .1) in
     let s : 0 + length (x .0 ++ map (raiseStatement (length a + 1)) (y .0)) ≡ n + m =
-      omega (arith, length-append (x .0) (map (raiseStatement (length a + 1)) (y .0)), length-map (y .0) (raiseStatement (length a + 1))) in
+    omega (arith, length-append (x .0) (map (raiseStatement (length a + 1)) (y .0)), length-map (y .0) (raiseStatement (length a + 1))) in
     ap (counted 0) (reading-joins limit a b (x .0) (y .0) (x .1) (y .1) h (omega arith)) ∙ ap accepted s

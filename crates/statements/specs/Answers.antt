@@ -2,9 +2,10 @@
 use Prim.Native.Nat.{ℕ, suc, _+_, _<_, _≤_}
 use mathlib.Core.Bool.{cond}
 use mathlib.Core.List.{List, []}
+use mathlib.Core.Option.{Option, some, none}
 use mathlib.Core.Path.{_≡_}
 use lib.Dec.{eqb, leb}
-use lib.ListN.{length}
+use lib.ListN.{length, getElem?}
 use Rattle.tokens.specs.declared.Token as lexer
 use Rattle.tokens.specs.Next.{tokenAt}
 use Rattle.reading.specs.Statement.{Statement}
@@ -20,6 +21,8 @@ use Rattle.statements.specs.declared.Ended.{Ended}
 use Rattle.statements.specs.declared.Ended.the-variants as ended
 use Rattle.statements.specs.declared.NextRead.{NextRead}
 use Rattle.statements.specs.declared.NextRead.the-variants as nextRead
+use Rattle.statements.specs.declared.StatementAt.{StatementAt}
+use Rattle.statements.specs.declared.StatementAt.the-variants as statementAt
 use Rattle.statements.specs.declared.CountRead.{CountRead}
 use Rattle.statements.specs.declared.CountRead.the-variants as countRead
 
@@ -72,3 +75,16 @@ counted n (refused k p) = refused k p
 unfoldable pub countAs : CountRead → Answer ℕ
 countAs (countRead.Count n) = accepted n
 countAs (countRead.Refused r) = refused (r .number) (r .place)
+
+-- the statement at an index; 20 where there are not so many
+abbrev pub chosen : ℕ → Option Statement → Answer Statement
+chosen i none = refused 20 i
+chosen i (some s) = accepted s
+
+abbrev pub nthOf : ℕ → Answer (List Statement) → Answer Statement
+nthOf i (accepted ss) = chosen i (getElem? ss i)
+nthOf i (refused k p) = refused k p
+
+unfoldable pub statementAs : List ℕ → StatementAt → Answer Statement
+statementAs s (statementAt.Statement f) = accepted (statementIn s f)
+statementAs s (statementAt.Refused r) = refused (r .number) (r .place)

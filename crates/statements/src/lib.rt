@@ -10,11 +10,13 @@ ghost use Rattle.tokens.specs.Next.{tokenAt};
 ghost use Rattle.labels.specs.Word.{sameWord};
 ghost use Rattle.labels.specs.Table.{labelTable, keywordTable};
 ghost use Rattle.reading.specs.Syntax.{keyword, letKeyword, opened};
+ghost use Rattle.reading.specs.Statement.{Statement as Statement·spec};
+ghost use Rattle.reading.specs.Answer.{accepted};
 ghost use Rattle.reading.specs.Read.{between, readText};
 ghost use Rattle.forms.specs.Items.{nameIn};
 ghost use Rattle.forms.specs.Fits.{InText};
 ghost use Rattle.arguments.specs.Answers.{readIn, stepIn};
-ghost use Rattle.statements.specs.Answers.{statementThen, StatementFurther, FirstToken, EndedThen, crowdedBy, readAt, nextThen, NextFurther, counted, countAs};
+ghost use Rattle.statements.specs.Answers.{statementThen, StatementFurther, FirstToken, EndedThen, crowdedBy, readAt, nextThen, NextFurther, counted, countAs, nthOf, statementAs};
 use calls::FeatureRead;
 use calls::LetRead;
 use checks::ItemsRead;
@@ -42,6 +44,12 @@ pub enum Ended {
 pub enum NextRead {
     Statement(Statement, Cursor),
     End,
+    Refused(Refusal),
+}
+
+// A statement of a text, or why there is none.
+pub enum StatementAt {
+    Statement(Statement),
     Refused(Refusal),
 }
 
@@ -274,4 +282,62 @@ pub fn count(text: &[u8]) -> CountRead
     ensures { λ r. ⌜ countAs r ≡ counted 0 (readText 64 (now (text .entry))) ⌝ }
 {
     count_under(text, 64)
+}
+
+// The statement at an index, where every statement can be read; 20 where there are not so many.
+fn nth(
+    text: &[u8],
+    classes: &[u8; 256],
+    labels: &[u8; 608],
+    keys: &[u8; 240],
+    index: usize,
+    limit: u32,
+) -> StatementAt
+    requires { ⌜ (now classes ≡ classTable) × (now labels ≡ labelTable) × (now keys ≡ keywordTable) ⌝ }
+    ensures { λ r. ⌜
+        ((ss : List Statement·spec)
+        → readAt limit (now (text .entry)) 0 between 0 ≡ accepted ss
+        → statementAs (now (text .entry)) r ≡ nthOf index (accepted ss))
+        ⌝ }
+{
+    let mut n = 0;
+    let mut cur = 0;
+    loop {
+        match next_statement(text, classes, labels, keys, cur, n, limit) {
+            NextRead::Statement(form, c) => {
+                if n == index {
+                    return StatementAt::Statement(form);
+                }
+                cur = c.at;
+                n += 1;
+            }
+            NextRead::End => return StatementAt::Refused(Refusal {
+                number: 20,
+                place: index,
+            }),
+            NextRead::Refused(r) => return StatementAt::Refused(r),
+        }
+    }
+}
+
+// The statement of a text at an index, or why it is refused: the faults of the whole text come before 20.
+pub fn statement_under(text: &[u8], index: usize, limit: u32) -> StatementAt
+    ensures { λ r. ⌜ statementAs (now (text .entry)) r ≡ nthOf index (readText limit (now (text .entry))) ⌝ }
+{
+    match count_under(text, limit) {
+        CountRead::Refused(r) => StatementAt::Refused(r),
+        CountRead::Count(_) => {
+            let classes = tokens::CLASSES;
+            let labels = labels::LABELS;
+            let keys = labels::KEYWORDS;
+            nth(text, &classes, &labels, &keys, index, limit)
+        }
+    }
+}
+
+// The statement of a text at an index.
+pub fn statement_at(text: &[u8], index: usize) -> StatementAt
+    ensures { λ r. ⌜ statementAs (now (text .entry)) r ≡ nthOf index (readText 64 (now (text .entry))) ⌝ }
+{
+    statement_under(text, index, 64)
 }

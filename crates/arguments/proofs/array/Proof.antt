@@ -191,12 +191,12 @@ returns-2 c =
     let n = l .loop .n in
     let cur = l .loop .cur in
     let whole : Listed s (record { first = o; count = n + 1 }) =
-      record { are = more-listed s p o n cur g (d .read-entry .result) (d .read-entry .ensures .0) (e .0); few = omega (arith, e .1) } in (
+    record { are = more-listed s p o n cur g (d .read-entry .result) (d .read-entry .ensures .0) (e .0); few = omega (arith, e .1) } in (
       (λ limit call.
           on s p o n cur g (d .read-entry .result) (d .read-entry .ensures .0) limit call
           ∙ ap (entryThen limit s call p (entries (l .loop .n) (tokensFrom s o) ++ entries 1 (tokensFrom s (l .loop .cur)))) (x .1)
           ∙ ap (λ (items : List Item). readIn limit s (argumentRead call (argument.array p items)) (x .0 .0 .at))
-            (all s p o n cur g (d .read-entry .result) (d .read-entry .ensures .0) (e .0) ∙ sym (items-are s _ whole))),
+          (all s p o n cur g (d .read-entry .result) (d .read-entry .ensures .0) (e .0) ∙ sym (items-are s _ whole))),
       (omega (arith, f .0, g .past), f .1, whole),
     )
 
