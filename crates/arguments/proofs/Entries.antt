@@ -1,13 +1,13 @@
 -- The entries of an array: what a word or a number makes of it, and how a list of entries grows by one.
 -- Assumes nothing.
-use mathlib.Core.Path.{_≡_, refl, _∙_, ap, sym, subst}
-use mathlib.Core.Bool.{Bool, true, false, cond, _&&_, true≢false, and-true}
-use mathlib.Core.List.{List, [], _∷_, _++_, append-assoc}
-use Prim.Native.Nat.{ℕ, zero, suc, _+_, _≤_, _<_}
+use mathlib.Core.Path.{_≡_, refl, _∙_, ap, sym}
+use mathlib.Core.Bool.{Bool, true, false, cond, _&&_, true≢false}
+use mathlib.Core.List.{List, [], _∷_, _++_}
+use Prim.Native.Nat.{ℕ, zero, suc, _≤_, _<_}
 use native.Mathlib.Omega.{arith}
 use borrow.Author.Tests.{lt-ltb, le-ltb}
 use lib.Dec.{ltb}
-use lib.ListN.{length, length-append}
+use lib.ListN.{length}
 use Rattle.tokens.specs.declared.Token as lexer
 use Rattle.tokens.specs.Token.{Shape, word, number, mark, Tokens, finish, bad, _▸_}
 use Rattle.reading.specs.Statement.{Item}
@@ -18,7 +18,7 @@ use Rattle.tokens.proofs.Steps.{token}
 use Rattle.tokens.proofs.Views.{Reads, Known, aWord, aNumber, aMark, aStray, theEnd}
 use Rattle.arguments.specs.declared.Entry.{Entry}
 use Rattle.arguments.specs.declared.Entry.the-variants as answer
-use Rattle.arguments.specs.Answers.{readIn, stepIn, entryThen, EntryFurther, EntryListed}
+use Rattle.arguments.specs.Answers.{readIn, stepIn, EntryFurther, EntryListed}
 use Rattle.arguments.proofs.Reading.{read-token}
 
 -- a token of a kind below two is a word or a number

@@ -1,18 +1,15 @@
 -- A token's bytes as a name: the name that the definition gives it, in the text, and the one entry of a list that starts with it.
 -- Assumes nothing.
-use mathlib.Core.Path.{_≡_, refl, _∙_, ap, sym, subst}
-use mathlib.Core.Bool.{true}
-use mathlib.Core.List.{List, [], _∷_}
-use Prim.Native.Nat.{ℕ, _+_, _-_, _≤_, _<_}
+use mathlib.Core.Path.{_≡_, ap, sym, subst}
+use mathlib.Core.List.{List}
+use Prim.Native.Nat.{ℕ}
 use native.Mathlib.Omega.{arith}
-use lib.ListN.{length}
 use Rattle.tokens.specs.declared.Token as lexer
 use Rattle.tokens.specs.Token.{Shape, Token, word, number}
-use Rattle.reading.specs.Statement.{Kind, aWord, aNumber}
-use Rattle.reading.specs.Statement as statement
+use Rattle.reading.specs.Statement.{aWord, aNumber}
 use Rattle.reading.specs.Syntax.{name}
 use Rattle.forms.specs.declared.Name.{Name}
-use Rattle.forms.specs.Items.{tokensFrom, nameIn, entries, listed}
+use Rattle.forms.specs.Items.{nameIn, entries, listed}
 use Rattle.forms.specs.Fits.{InText, Stands}
 use Rattle.tokens.proofs.Steps.{token}
 use Rattle.tokens.proofs.Views.{part, Reads}

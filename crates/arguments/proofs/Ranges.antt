@@ -1,9 +1,8 @@
 -- The ends of a range, by what each is as a count.
 -- Assumes nothing.
-use mathlib.Core.Path.{_≡_, refl, _∙_, ap}
+use mathlib.Core.Path.{_≡_}
 use Prim.Native.Nat.{ℕ, _≤_, _<_}
 use borrow.Author.Tests.{lt-ltb, le-ltb}
-use lib.Dec.{ltb}
 use Rattle.counts.specs.declared.Counted.the-variants.{Count, Refused}
 use Rattle.counts.specs.Count.{countOf}
 use Rattle.reading.specs.Statement.{Name}

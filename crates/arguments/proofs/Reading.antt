@@ -1,12 +1,10 @@
 -- How the reading of a statement goes on at a token: by what the token makes of what was read before, or by a refusal.
 -- Assumes nothing.
-use mathlib.Core.Path.{_≡_, refl, _∙_, ap, sym}
-use mathlib.Core.Bool.{cond}
+use mathlib.Core.Path.{_≡_, _∙_, ap, sym}
 use mathlib.Core.List.{List, []}
 use Prim.Native.Nat.{ℕ, _≤_}
 use native.Mathlib.Omega.{arith}
 use borrow.Author.Tests.{ne-eqb}
-use lib.Dec.{eqb}
 use lib.ListN.{length}
 use Rattle.tokens.specs.declared.Token as lexer
 use Rattle.tokens.specs.Token.{Token, word, number, mark}
@@ -14,7 +12,7 @@ use Rattle.reading.specs.Statement.{Name}
 use Rattle.reading.specs.Statement as statement
 use Rattle.reading.specs.Argument.{single}
 use Rattle.reading.specs.Syntax.{Call, State, Step, wrong, turn, numberRead, arrayOpen, item, argumentRead}
-use Rattle.reading.specs.One.{readOne, oneStep}
+use Rattle.reading.specs.One.{readOne}
 use Rattle.tokens.proofs.Views.{Reads, Known, aWord, aNumber, aMark, aStray, theEnd}
 use Rattle.arguments.specs.Answers.{readIn, stepIn, refusedBy, refusalOf}
 

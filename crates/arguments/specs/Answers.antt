@@ -1,10 +1,10 @@
 -- What the answers of the functions that read arguments mean: how the reading of the statement goes on from them.
-use Prim.Native.Nat.{ℕ, _+_, _-_, _<_, _≤_}
-use mathlib.Core.Bool.{Bool, true, cond}
-use mathlib.Core.List.{List, []}
+use Prim.Native.Nat.{ℕ, _-_, _<_, _≤_}
+use mathlib.Core.Bool.{true, cond}
+use mathlib.Core.List.{List}
 use mathlib.Core.Path.{_≡_}
 use lib.Dec.{eqb}
-use lib.ListN.{length, drop}
+use lib.ListN.{length}
 use Rattle.tokens.specs.declared.Token as lexer
 use Rattle.tokens.specs.Token.{Tokens}
 use Rattle.reading.specs.Statement.{Item}

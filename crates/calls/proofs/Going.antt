@@ -1,9 +1,9 @@
 -- How the reading of arguments goes on from one to the next.
 -- Assumes nothing.
-use mathlib.Core.Path.{_≡_, refl, _∙_, ap, sym, subst}
+use mathlib.Core.Path.{_≡_, refl, _∙_}
 use mathlib.Core.Bool.{Bool}
 use mathlib.Core.List.{List, [], _∷_, _++_}
-use Prim.Native.Nat.{ℕ, _+_, _<_, _≤_}
+use Prim.Native.Nat.{ℕ, _≤_}
 use native.Mathlib.Omega.{arith}
 use Rattle.reading.specs.Statement.{Name}
 use Rattle.reading.specs.Argument as argument
@@ -14,8 +14,6 @@ use Rattle.forms.specs.declared.Args.{Args}
 use Rattle.arguments.specs.Answers.{readIn}
 use Rattle.calls.specs.declared.OneMore.{OneMore}
 use Rattle.calls.specs.declared.OneMore.the-variants as oneMore
-use Rattle.calls.specs.declared.ArgsRead.{ArgsRead}
-use Rattle.calls.specs.declared.ArgsRead.the-variants as argsRead
 use Rattle.calls.specs.declared.FeatureRead.{FeatureRead}
 use Rattle.calls.specs.declared.FeatureRead.the-variants as featureRead
 use Rattle.calls.specs.declared.LetRead.{LetRead}

@@ -1,16 +1,15 @@
 -- Arguments that are held: one more, and what a feature makes of them.
 -- Assumes nothing.
-use mathlib.Core.Path.{_≡_, refl, _∙_, ap, sym, subst}
+use mathlib.Core.Path.{_≡_, refl, _∙_, sym}
 use mathlib.Core.Bool.{Bool, true, false}
 use mathlib.Core.List.{List, [], _∷_, _++_}
 use mathlib.Core.Option.{Option, some, none}
-use Prim.Native.Nat.{ℕ, suc, _+_, _-_, _≤_}
+use Prim.Native.Nat.{ℕ, suc, _+_, _-_}
 use native.Mathlib.Omega.{arith}
 use borrow.Author.Tests.{eq-eqb, ne-eqb}
-use lib.Dec.{eqb}
 use lib.ListN.{length, length-append, take, replicate}
-use Rattle.reading.specs.Statement.{Name, Feature}
-use Rattle.reading.specs.Answer.{Answer, wrongNumber}
+use Rattle.reading.specs.Statement.{Name}
+use Rattle.reading.specs.Answer.{wrongNumber}
 use Rattle.reading.specs.Argument as argument
 use Rattle.reading.specs.Feature.{
   Keyword,

@@ -1,7 +1,7 @@
 -- Document 01, Faults, 4: "count not a whole 32-bit number, or above 64". The limit is a parameter.
 use Prim.Native.Nat.{ℕ, _+_, _-_, _*_}
 use Prim.Native.Char.{code}
-use mathlib.Core.Bool.{Bool, true, false, cond, _&&_}
+use mathlib.Core.Bool.{Bool, false, cond, _&&_}
 use mathlib.Core.List.{List, [], _∷_}
 use lib.Dec.{leb}
 use Rattle.text.specs.Bytes.{between, every}

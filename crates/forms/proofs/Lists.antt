@@ -1,12 +1,12 @@
 -- What a list's entries are, where they can be read again.
 -- Assumes nothing.
-use mathlib.Core.Path.{_≡_, refl, _∙_, ap, sym}
-use mathlib.Core.Bool.{Bool, true, false, cond, _&&_}
+use mathlib.Core.Path.{_≡_, refl, _∙_}
+use mathlib.Core.Bool.{Bool, true, false}
 use mathlib.Core.List.{List, [], _∷_}
-use Prim.Native.Nat.{ℕ, _≤_}
+use Prim.Native.Nat.{ℕ}
 use borrow.Author.Tests.{le-leb, leb-true}
 use lib.Dec.{leb, lit≤}
-use Rattle.reading.specs.Statement.{Kind, Item}
+use Rattle.reading.specs.Statement.{Kind}
 use Rattle.forms.specs.declared.Name.{Name}
 use Rattle.forms.specs.declared.Items.{Items}
 use Rattle.forms.specs.Items.{tokensFrom, nameIn, entries, listed, itemsIn}

@@ -1,7 +1,6 @@
 -- What a form means: the argument or the statement of the definition of reading that it stands for in a text.
 use Prim.Native.Nat.{ℕ, _-_}
-use mathlib.Core.Bool.{Bool}
-use mathlib.Core.List.{List, [], _∷_, map}
+use mathlib.Core.List.{List, _∷_, map}
 use mathlib.Core.Option.{Option, some, none}
 use lib.ListN.{take, replicate}
 use Rattle.counts.specs.Count.{value}

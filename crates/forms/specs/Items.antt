@@ -4,9 +4,9 @@ use mathlib.Core.Bool.{Bool, true, false, cond, _&&_}
 use mathlib.Core.List.{List, [], _∷_}
 use lib.Dec.{leb}
 use lib.ListN.{take, drop}
-use Rattle.tokens.specs.Token.{Shape, word, number, mark, Token, Tokens, finish, bad, _▸_}
+use Rattle.tokens.specs.Token.{Shape, word, number, mark, Tokens, finish, bad, _▸_}
 use Rattle.tokens.specs.Lex.{tokensAt}
-use Rattle.reading.specs.Statement.{Name, Kind, aWord, aNumber, Item}
+use Rattle.reading.specs.Statement.{Name, aWord, aNumber, Item}
 use Rattle.reading.specs.Syntax.{itemAs}
 use Rattle.forms.specs.declared.Name as form
 use Rattle.forms.specs.declared.Items as list

@@ -1,16 +1,15 @@
 -- Arguments before their feature says what they mean (000, `Arg`), and what each kind of argument takes them for (000, `names_of`,
 -- `modes_of`, `operand_of`, `counts_of`).
 use Prim.Native.Nat.{ℕ}
-use mathlib.Core.Bool.{Bool, cond, not}
+use mathlib.Core.Bool.{cond}
 use mathlib.Core.List.{List, [], _∷_, map}
 use mathlib.Core.Option.{Option, some, none}
 use lib.Dec.{eqb, ltb}
-use Rattle.text.specs.Bytes.{bytes}
 use Rattle.counts.specs.declared.Counted.{Counted}
 use Rattle.counts.specs.declared.Counted.the-variants.{Count, Refused}
 use Rattle.counts.specs.Count.{countOf}
 use Rattle.labels.specs.declared.Family.{Family}
-use Rattle.labels.specs.Word.{sameWord, find}
+use Rattle.labels.specs.Word.{find}
 use Rattle.labels.specs.Label.{labelsOf}
 use Rattle.reading.specs.Statement.{
   Name,

@@ -1,6 +1,6 @@
 -- One statement alone, read to its `)`: what code that reads token by token is held to. `readFrom` reads a statement in the same way.
 use Prim.Native.Nat.{ℕ}
-use Rattle.tokens.specs.Token.{Token, Tokens, finish, bad, _▸_}
+use Rattle.tokens.specs.Token.{Tokens, finish, bad, _▸_}
 use Rattle.reading.specs.Statement.{Statement}
 use Rattle.reading.specs.Syntax.{State, Step, more, made, stop, turn}
 

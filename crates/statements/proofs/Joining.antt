@@ -1,7 +1,7 @@
 -- Document 01, Holding the calls to their word, 3, for Count: for all texts A and B that Count accepts, whose joined text has at most 16,384
 -- bytes and 256 statements, Count of A, newline, B is the sum. Count's contract says that its answer is `counted 0 (readText 64 text)`.
 -- Assumes nothing.
-use mathlib.Core.Path.{_≡_, refl, _∙_, ap, sym}
+use mathlib.Core.Path.{_≡_, _∙_, ap, sym}
 use mathlib.Core.List.{List, _∷_, _++_, map}
 use Prim.Native.Nat.{ℕ, _+_, _≤_}
 use native.Mathlib.Nat.{zero-add}

@@ -1,6 +1,6 @@
 -- What becomes of a whole text, by its length, its bytes and its statements.
 -- Assumes nothing.
-use mathlib.Core.Path.{_≡_, refl, _∙_, ap, sym}
+use mathlib.Core.Path.{_≡_, ap}
 use mathlib.Core.List.{List}
 use Prim.Native.Nat.{ℕ, _≤_, _<_}
 use borrow.Author.Tests.{lt-ltb, le-ltb}
@@ -9,8 +9,7 @@ use Rattle.tokens.specs.declared.Scanned.{Scanned}
 use Rattle.tokens.specs.declared.Scanned.the-variants.{Whole, Stray}
 use Rattle.tokens.specs.Lex.{tokens}
 use Rattle.tokens.specs.Next.{scanned}
-use Rattle.reading.specs.Statement.{Statement}
-use Rattle.reading.specs.Answer.{Answer, accepted, tooLong, badByte}
+use Rattle.reading.specs.Answer.{accepted, tooLong, badByte}
 use Rattle.reading.specs.Read.{between, readScanned, readText}
 use Rattle.reading_laws.proofs.Scanning.{accepted-whole}
 use Rattle.statements.specs.Answers.{readAt, counted}

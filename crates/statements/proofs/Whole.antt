@@ -1,17 +1,17 @@
 -- How the definition of reading goes from statement to statement, in the terms of the functions that read one.
 -- Assumes nothing.
-use mathlib.Core.Path.{_≡_, refl, _∙_, ap, sym, subst}
+use mathlib.Core.Path.{_≡_, refl, _∙_, ap, sym}
 use mathlib.Core.Bool.{Bool, true, false, cond}
-use mathlib.Core.List.{List, [], _∷_}
-use Prim.Native.Nat.{ℕ, zero, suc, _+_, _≤_, _<_}
-use native.Mathlib.Nat.{add-suc, suc-add, add-zero, zero-add}
+use mathlib.Core.List.{List, []}
+use Prim.Native.Nat.{ℕ, suc, _≤_, _<_}
+use native.Mathlib.Nat.{add-suc, suc-add}
 use native.Mathlib.Omega.{arith}
 use borrow.Author.Tests.{ne-eqb, le-leb, lt-leb}
-use lib.Dec.{eqb, leb}
+use lib.Dec.{leb}
 use lib.ListN.{length}
 use Rattle.text.specs.Bytes.{bytes}
 use Rattle.tokens.specs.declared.Token as lexer
-use Rattle.tokens.specs.Token.{Shape, word, number, mark, Token, Tokens, finish, bad, _▸_}
+use Rattle.tokens.specs.Token.{word, number, mark, Token, Tokens, finish, bad, _▸_}
 use Rattle.labels.specs.Word.{sameWord}
 use Rattle.reading.specs.Statement.{Statement}
 use Rattle.reading.specs.Answer.{Answer, accepted, refused}
@@ -21,7 +21,7 @@ use Rattle.reading.specs.One.{One, whole, halted, oneStep, readOne}
 use Rattle.forms.specs.declared.Refusal.{Refusal}
 use Rattle.forms.specs.Items.{tokensFrom}
 use Rattle.tokens.proofs.Steps.{token}
-use Rattle.tokens.proofs.Views.{Reads, Known, aWord, aNumber, aMark, aStray, theEnd, known-mark, known-end}
+use Rattle.tokens.proofs.Views.{Reads, Known, aWord, aNumber, aMark, aStray, theEnd}
 use Rattle.statements.specs.Answers.{readAt, crowdedBy, counted}
 
 -- what comes after a statement that was read, or its refusal

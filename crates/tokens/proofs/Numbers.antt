@@ -3,12 +3,12 @@
 use mathlib.Core.Path.{_≡_, refl, _∙_, ap, sym, fun-ext}
 use mathlib.Core.Bool.{Bool, true, false, cond, and-false, _&&_}
 use mathlib.Core.List.{List, [], _∷_}
-use Prim.Native.Nat.{ℕ, zero, suc, _+_, _<_, _≤_}
+use Prim.Native.Nat.{ℕ, suc, _+_, _<_, _≤_}
 use native.Mathlib.Nat.{add-assoc}
-use native.Mathlib.Numerals.{add-one, add-two}
+use native.Mathlib.Numerals.{add-one}
 use native.Mathlib.Omega.{arith}
 use borrow.Author.Tests.{ne-eqb}
-use lib.ListN.{length, getD, drop, drop-of-length-le, length-drop}
+use lib.ListN.{length, getD, drop, length-drop}
 use lib.Seq.{drop-cons, drop-drop}
 use Rattle.text.specs.Bytes.{span}
 use Rattle.tokens.specs.Class.{classNumber, classBetween, isA, dot, digit}

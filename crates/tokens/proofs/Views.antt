@@ -5,7 +5,6 @@ use mathlib.Core.Path.{_≡_, refl, _∙_, ap, sym, subst}
 use mathlib.Core.Bool.{Bool, true, false, cond}
 use mathlib.Core.List.{List, [], _∷_}
 use Prim.Native.Nat.{ℕ, zero, suc, _+_, _-_, _<_, _≤_}
-use native.Mathlib.Nat.{add-zero}
 use native.Mathlib.Numerals.{add-one}
 use native.Mathlib.Omega.{arith}
 use borrow.Author.Tests.{leb-true, leb-false}
@@ -13,7 +12,6 @@ use lib.Dec.{leb, lit≤}
 use lib.ListN.{length, take, drop, length-drop}
 use lib.Seq.{drop-cons, length-take-le}
 use Rattle.text.specs.Bytes.{span}
-use Rattle.tokens.specs.declared.Cursor.{Cursor}
 use Rattle.tokens.specs.declared.Lexed.{Lexed}
 use Rattle.tokens.specs.declared.Lexed.the-variants.{Word, Number, Mark, Bad, End}
 use Rattle.tokens.specs.Class.{
@@ -31,11 +29,11 @@ use Rattle.tokens.specs.Class.{
   classOf,
   isA,
 }
-use Rattle.tokens.specs.Token.{Shape, Token, Tokens, finish, bad, _▸_, range, width, past}
+use Rattle.tokens.specs.Token.{Shape, Token, finish, bad, _▸_, range, width, past}
 use Rattle.tokens.specs.Token as shapes
 use Rattle.tokens.specs.Lex.{Front, skip, taken, wrong, inWord, numberRest, dots, frontOf, follow}
 use Rattle.tokens.specs.declared.Token as kinds
-use Rattle.tokens.specs.Next.{cursor, first, lexedAs, byKind, tokenAt}
+use Rattle.tokens.specs.Next.{first, lexedAs, byKind, tokenAt}
 use Rattle.tokens.proofs.Classes.{mark-no-point, mark-large}
 use Rattle.tokens.proofs.Runs.{span-most}
 use Rattle.tokens.proofs.Numbers.{number-most}

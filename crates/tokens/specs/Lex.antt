@@ -1,12 +1,11 @@
 -- Document 01, Reading: "The whole text is split into tokens before any statement". The tokens are those of `lex` (000).
 use Prim.Native.Nat.{ℕ, zero, suc, _+_}
-use Prim.Native.Char.{code}
 use mathlib.Core.Bool.{Bool, cond, not, _&&_, _||_}
 use mathlib.Core.List.{List, [], _∷_}
 use lib.ListN.{take, drop}
 use Rattle.text.specs.Bytes.{span}
 use Rattle.tokens.specs.Class.{Class, newline, semicolon, mark, dot, blank, hash, other, hyphen, digit, letter, classOf, isA}
-use Rattle.tokens.specs.Token.{Token, Shape, Tokens, finish, bad, _▸_, separator, range}
+use Rattle.tokens.specs.Token.{Shape, Tokens, finish, bad, _▸_, separator, range}
 use Rattle.tokens.specs.Token as token
 
 -- a byte that a word goes on with; a digit; a byte that a comment goes on with

@@ -12,7 +12,7 @@ use Rattle.tokens.specs.declared.Lexed.{Lexed}
 use Rattle.tokens.specs.declared.Lexed.the-variants.{Word, Number, Mark, Bad, End}
 use Rattle.tokens.specs.declared.Scanned.{Scanned}
 use Rattle.tokens.specs.declared.Scanned.the-variants.{Whole, Stray}
-use Rattle.tokens.specs.Token.{Token, Shape, word, number, mark, past, width, Tokens, finish, bad, _▸_}
+use Rattle.tokens.specs.Token.{Token, Shape, word, number, mark, width, Tokens, finish, bad, _▸_}
 
 abbrev pub cursor : ℕ → Cursor
 cursor o = record { at = o }

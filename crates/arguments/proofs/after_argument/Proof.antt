@@ -1,7 +1,5 @@
 -- `arguments::after_argument` meets its contract: the token's kind says what it makes of an argument that is read. Assumes nothing.
-use Prim.Native.Nat.{ℕ, _≤_, _<_}
-use mathlib.Core.Path.{_≡_, refl, _∙_, ap, sym}
-use mathlib.Core.List.{List}
+use mathlib.Core.Path.{refl, _∙_, ap, sym}
 use native.Mathlib.Omega.{arith}
 use borrow.Author.Tests.{ne-eqb}
 use lib.Dec.{lit≤}
@@ -13,38 +11,29 @@ use Rattle.arguments.proofs.Reading.{read-token, rejected}
 use borrow.Author.Needs.{needs}
 use Rattle.arguments.proofs.after_argument.Statement.{statement}
 use Rattle.arguments.proofs.after_argument.Tie as tie
-use Rattle.arguments.proofs.after_argument.Reads as reads
-use Rattle.arguments.proofs.after_argument.Lts as lts
-use Rattle.arguments.proofs.unexpected.Reads as unexpected-reads
-use Rattle.tokens.proofs.Cursor.token.Reads as token-reads
 
 -- what the token's kind tells
 here : (d : tie.After-token) → Known (now (d .before .before .args .text)) (d .before .before .args .at) (d .token .result)
 here d = known _ _ (d .token .result) (d .token .ensures)
 
--- src/lib.rt:305:9
 token-requires : tie.Need-token-requires
 token-requires c κs = search needs
 
--- src/lib.rt:308:9
 returns : tie.Need-returns
 unfolding turn afterThen AfterFurther
 returns c =
     let r = known-mark (here (c .before .before .before)) 44 (c .if1 .taken) (lit≤ tt) in
     ((λ limit call a. read-token limit _ (argumentRead call a) _ _ _ r), (omega (arith, r .ahead, r .wide), r .within))
 
--- src/lib.rt:314:9
 returns-2 : tie.Need-returns-2
 unfolding turn afterThen AfterFurther
 returns-2 c =
     let r = known-mark (here (c .before .before .before .before .before)) 41 (c .if2 .taken) (lit≤ tt) in
     ((λ limit call a. read-token limit _ (argumentRead call a) _ _ _ r), (omega (arith, r .ahead, r .wide), r .within))
 
--- src/lib.rt:316:20
 unexpected-requires : tie.Need-unexpected-requires
 unexpected-requires c κs = search needs
 
--- src/lib.rt:296:1
 returns-3 : tie.Need-returns-3
 unfolding turn afterThen AfterFurther
 returns-3 c =

@@ -1,7 +1,5 @@
 -- `arguments::after_entry` meets its contract: the token's kind says what it makes of an array with an entry read. Assumes nothing.
-use Prim.Native.Nat.{ℕ, _≤_, _<_}
-use mathlib.Core.Path.{_≡_, refl, _∙_, ap, sym}
-use mathlib.Core.List.{List}
+use mathlib.Core.Path.{refl, _∙_, ap, sym}
 use native.Mathlib.Omega.{arith}
 use borrow.Author.Tests.{ne-eqb}
 use lib.Dec.{lit≤}
@@ -14,20 +12,14 @@ use Rattle.arguments.proofs.Reading.{read-token, rejected}
 use borrow.Author.Needs.{needs}
 use Rattle.arguments.proofs.after_entry.Statement.{statement}
 use Rattle.arguments.proofs.after_entry.Tie as tie
-use Rattle.arguments.proofs.after_entry.Reads as reads
-use Rattle.arguments.proofs.after_entry.Lts as lts
-use Rattle.arguments.proofs.unexpected.Reads as unexpected-reads
-use Rattle.tokens.proofs.Cursor.token.Reads as token-reads
 
 -- what the token's kind tells
 here : (d : tie.After-token) → Known (now (d .before .before .args .text)) (d .before .before .args .at) (d .token .result)
 here d = known _ _ (d .token .result) (d .token .ensures)
 
--- src/lib.rt:181:9
 token-requires : tie.Need-token-requires
 token-requires c κs = search needs
 
--- src/lib.rt:184:9
 returns : tie.Need-returns
 unfolding turn entryThen EntryFurther
 returns c =
@@ -36,7 +28,6 @@ returns c =
       (omega (arith, r .ahead, r .wide), r .within, ap rest (r .tokens)),
     )
 
--- src/lib.rt:187:9
 returns-2 : tie.Need-returns-2
 unfolding turn entryThen EntryFurther
 returns-2 c =
@@ -45,11 +36,9 @@ returns-2 c =
       (omega (arith, r .ahead, r .wide), r .within),
     )
 
--- src/lib.rt:189:20
 unexpected-requires : tie.Need-unexpected-requires
 unexpected-requires c κs = search needs
 
--- src/lib.rt:172:1
 returns-3 : tie.Need-returns-3
 unfolding turn entryThen EntryFurther
 returns-3 c =

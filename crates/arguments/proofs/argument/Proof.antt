@@ -1,13 +1,10 @@
 -- `arguments::argument` meets its contract: the token's kind says which argument starts. Assumes nothing.
-use Prim.Native.Nat.{ℕ, _≤_, _<_}
-use mathlib.Core.Path.{_≡_, refl, _∙_, ap, sym}
-use mathlib.Core.List.{List}
+use mathlib.Core.Path.{_∙_, ap, sym}
 use native.Mathlib.Omega.{arith}
 use borrow.Author.Tests.{ne-eqb}
 use lib.Dec.{lit≤}
 use denote.Ref.{now}
 use Rattle.reading.specs.Statement.{Name, aWord}
-use Rattle.reading.specs.Statement as statement
 use Rattle.reading.specs.Argument.{single}
 use Rattle.reading.specs.Syntax.{turn, numberRead, argumentRead}
 use Rattle.reading.specs.Syntax as syntax
@@ -16,56 +13,40 @@ use Rattle.forms.specs.Fits.{Fits}
 use Rattle.tokens.proofs.Views.{Known, known, known-word, known-number, known-mark}
 use Rattle.arguments.specs.Answers.{readIn, refusedBy, argThen, ArgFurther}
 use Rattle.arguments.proofs.Reading.{read-token, rejected}
-use Rattle.arguments.proofs.Names.{same-name, in-text, word-stands, number-stands}
+use Rattle.arguments.proofs.Names.{same-name, word-stands, number-stands}
 use Rattle.arguments.proofs.Further.{further}
 use borrow.Author.Needs.{needs}
 use Rattle.arguments.proofs.argument.Statement.{statement}
 use Rattle.arguments.proofs.argument.Tie as tie
-use Rattle.arguments.proofs.argument.Reads as reads
-use Rattle.arguments.proofs.argument.Lts as lts
-use Rattle.arguments.proofs.array.Reads as array-reads
-use Rattle.arguments.proofs.named.Reads as named-reads
-use Rattle.arguments.proofs.number.Reads as number-reads
-use Rattle.arguments.proofs.symbol.Reads as symbol-reads
-use Rattle.arguments.proofs.unexpected.Reads as unexpected-reads
-use Rattle.tokens.proofs.Cursor.token.Reads as token-reads
 
 -- what the token's kind tells
 here : (d : tie.After-token) → Known (now (d .before .before .args .text)) (d .before .before .args .at) (d .token .result)
 here d = known _ _ (d .token .result) (d .token .ensures)
 
--- src/lib.rt:271:9
 token-requires : tie.Need-token-requires
 token-requires c κs = search needs
 
--- src/lib.rt:276:17
 named-requires : tie.Need-named-requires
 named-requires c κs = let r = known-word (here (c .before .before)) (c .match .keys1) in omega (arith, r .wide)
 
--- src/lib.rt:280:17
 named-requires-2 : tie.Need-named-requires-2
 named-requires-2 c κs = let r = known-number (here (c .before .before)) (c .match .keys2) in omega (arith, r .wide)
 
--- src/lib.rt:281:13
 number-requires : tie.Need-number-requires
 number-requires c κs =
     let d = c .before .before .before in
     let r = known-number (here d) (c .before .match .keys2) in
     (d .before .before .pre, number-stands _ (d .token .result) (c .named2 .ensures) r, r .within)
 
--- src/lib.rt:285:17
 symbol-requires : tie.Need-symbol-requires
 symbol-requires c κs = search needs
 
--- src/lib.rt:286:17
 array-requires : tie.Need-array-requires
 array-requires c κs = search needs
 
--- src/lib.rt:291:31
 unexpected-requires : tie.Need-unexpected-requires
 unexpected-requires c κs = search needs
 
--- src/lib.rt:265:1
 returns : tie.Need-returns
 unfolding turn argThen ArgFurther argIn Fits
 returns c =
@@ -80,7 +61,6 @@ returns c =
       (omega (arith, r .ahead, r .wide), r .within, word-stands s (d .token .result) (c .named .ensures) r),
     )
 
--- src/lib.rt:265:1
 returns-2 : tie.Need-returns-2
 unfolding turn
 returns-2 c =
@@ -96,7 +76,6 @@ returns-2 c =
       further s _ _ (c .number .result) (omega (arith, r .ahead, r .wide)) (c .number .ensures .1),
     )
 
--- src/lib.rt:265:1
 returns-3 : tie.Need-returns-3
 unfolding turn argThen ArgFurther argIn Fits
 returns-3 c =
@@ -104,7 +83,6 @@ returns-3 c =
     let r = known-mark (here d) 42 (c .match .keys3) (lit≤ tt) in
     ((λ call. read-token (d .before .before .args .limit) _ (syntax.argument call) _ _ _ r), (omega (arith, r .ahead, r .wide), r .within, tt))
 
--- src/lib.rt:265:1
 returns-4 : tie.Need-returns-4
 unfolding turn argThen ArgFurther argIn Fits
 returns-4 c =
@@ -112,7 +90,6 @@ returns-4 c =
     let r = known-mark (here d) 43 (c .match .keys4) (lit≤ tt) in
     ((λ call. read-token (d .before .before .args .limit) _ (syntax.argument call) _ _ _ r), (omega (arith, r .ahead, r .wide), r .within, tt))
 
--- src/lib.rt:265:1
 returns-5 : tie.Need-returns-5
 unfolding turn
 returns-5 c =
@@ -123,7 +100,6 @@ returns-5 c =
       further _ _ _ (c .symbol .result) (omega (arith, r .ahead, r .wide)) (c .symbol .ensures .1),
     )
 
--- src/lib.rt:265:1
 returns-6 : tie.Need-returns-6
 unfolding turn
 returns-6 c =
@@ -134,7 +110,6 @@ returns-6 c =
       further _ _ _ (c .array .result) (omega (arith, r .ahead, r .wide)) (c .array .ensures .1),
     )
 
--- src/lib.rt:265:1
 returns-7 : tie.Need-returns-7
 unfolding turn argThen ArgFurther argIn Fits
 returns-7 c =
@@ -142,7 +117,6 @@ returns-7 c =
     let r = known-mark (here d) 41 (c .match .keys7) (lit≤ tt) in
     ((λ call. read-token (d .before .before .args .limit) _ (syntax.argument call) _ _ _ r), (omega (arith, r .ahead, r .wide), r .within))
 
--- src/lib.rt:265:1
 returns-8 : tie.Need-returns-8
 unfolding turn argThen ArgFurther
 returns-8 c =

@@ -1,6 +1,6 @@
 -- `arguments::array` meets its contract. The invariant: so many entries were read from the array's start, and reading it from there is reading
 -- on from here with these. Assumes nothing.
-use Prim.Native.Nat.{ℕ, suc, _+_, _-_, _≤_, _<_}
+use Prim.Native.Nat.{ℕ, _+_, _-_, _≤_}
 use mathlib.Core.Path.{_≡_, refl, _∙_, ap, sym, subst}
 use mathlib.Core.Bool.{true}
 use mathlib.Core.List.{List, _++_}
@@ -20,16 +20,11 @@ use Rattle.forms.specs.Fits.{Listed, Fits}
 use Rattle.forms.proofs.Lists.{items-are}
 use Rattle.tokens.proofs.Views.{Known, known, known-mark}
 use Rattle.arguments.specs.declared.Entry.{Entry}
-use Rattle.arguments.specs.declared.Entry.the-variants.{More, Done, Refused}
-use Rattle.arguments.specs.Answers.{readIn, refusedBy, argThen, ArgFurther, entryThen, EntryFurther, EntryListed}
+use Rattle.arguments.specs.Answers.{readIn, argThen, ArgFurther, entryThen, EntryFurther, EntryListed}
 use Rattle.arguments.proofs.Reading.{read-token, not-empty}
 use Rattle.arguments.proofs.Entries.{entries-more, listed-more, after-more, entries-length}
 use Rattle.arguments.proofs.array.Statement.{statement}
 use Rattle.arguments.proofs.array.Tie as tie
-use Rattle.arguments.proofs.array.Reads as reads
-use Rattle.arguments.proofs.array.Lts as lts
-use Rattle.arguments.proofs.read_entry.Reads as read-entry-reads
-use Rattle.tokens.proofs.Cursor.token.Reads as token-reads
 
 record Gone (s : List ℕ) (p o n cur : ℕ) : Type 0 where
   are : listed n (tokensFrom s o) ≡ true
@@ -67,11 +62,9 @@ module _ (s : List ℕ) (p o n cur : ℕ) (g : Gone s p o n cur) (r : Entry)
 here : (d : tie.After-token Inv-loop μ-loop) → Known (now (d .before .before .args .text)) (d .before .before .args .at) (d .token .result)
 here d = known _ _ (d .token .result) (d .token .ensures)
 
--- src/lib.rt:225:9
 token-requires : tie.Need-token-requires Inv-loop μ-loop
 token-requires c κs = c .before .pre
 
--- src/lib.rt:228:9
 returns : tie.Need-returns Inv-loop μ-loop
 unfolding turn argThen ArgFurther argIn Fits itemsIn entries listed
 returns c =
@@ -81,7 +74,6 @@ returns c =
       (omega (arith, r .ahead, r .wide), r .within, record { are = refl; few = lit≤ tt }),
     )
 
--- src/lib.rt:241:5
 loop-holds : tie.Need-loop-holds Inv-loop μ-loop
 unfolding entries afterEntries listed
 loop-holds c =
@@ -94,15 +86,12 @@ loop-holds c =
       same = λ limit call. not-empty limit _ call (d .before .before .args .bracket) _ (d .token .result) (here d) (c .if1 .left);
     }
 
--- src/lib.rt:242:15
 read-entry-requires : tie.Need-read-entry-requires Inv-loop μ-loop
 read-entry-requires c κs = c .before .before .before .before .before .before .pre
 
--- src/lib.rt:243:25
 enum-known-c : tie.Need-enum-known-c Inv-loop μ-loop
 enum-known-c c = search needs
 
--- src/lib.rt:245:17
 add-n : tie.Need-add-n Inv-loop μ-loop
 unfolding EntryFurther
 add-n c =
@@ -115,7 +104,6 @@ add-n c =
     let f = subst (EntryFurther s (l .loop .cur) _) (x .1) (d .read-entry .ensures .1 .0) in
     omega (arith, f .0, f .1, l .loop .inv .few)
 
--- src/lib.rt:241:5
 loop-less : tie.Need-loop-less Inv-loop μ-loop
 unfolding EntryFurther
 loop-less c =
@@ -128,7 +116,6 @@ loop-less c =
     let f = subst (EntryFurther s (l .loop .cur) _) (x .1) (d .read-entry .ensures .1 .0) in
     omega (arith, f .0, f .1)
 
--- src/lib.rt:241:5
 loop-again : tie.Need-loop-again Inv-loop μ-loop
 unfolding EntryFurther EntryListed entryThen
 loop-again c =
@@ -158,11 +145,9 @@ loop-again c =
           ∙ ap (λ (items : List Item). readIn limit s (item call p items) (x .0 .0 .at)) (all s p o n cur g (d .read-entry .result) (d .read-entry .ensures .0) (e .0));
     }
 
--- src/lib.rt:247:25
 enum-known-c-2 : tie.Need-enum-known-c-2 Inv-loop μ-loop
 enum-known-c-2 c = search needs
 
--- src/lib.rt:253:36
 add-t17 : tie.Need-add-t17 Inv-loop μ-loop
 unfolding EntryFurther
 add-t17 c =
@@ -175,7 +160,6 @@ add-t17 c =
     let f = subst (EntryFurther s (l .loop .cur) _) (x .1) (d .read-entry .ensures .1 .0) in
     omega (arith, f .0, f .1, l .loop .inv .few)
 
--- src/lib.rt:248:17
 returns-2 : tie.Need-returns-2 Inv-loop μ-loop
 unfolding EntryFurther EntryListed entryThen argThen ArgFurther argIn Fits
 returns-2 c =
@@ -200,11 +184,9 @@ returns-2 c =
       (omega (arith, f .0, g .past), f .1, whole),
     )
 
--- src/lib.rt:259:28
 enum-known-r : tie.Need-enum-known-r Inv-loop μ-loop
 enum-known-r c = search needs
 
--- src/lib.rt:259:34
 returns-3 : tie.Need-returns-3 Inv-loop μ-loop
 unfolding entryThen argThen ArgFurther
 returns-3 c =

@@ -1,7 +1,5 @@
 -- `arguments::number` meets its contract: a number alone, or the two ends of a range. Assumes nothing.
-use Prim.Native.Nat.{ℕ, _≤_, _<_}
-use mathlib.Core.Path.{_≡_, refl, _∙_, ap, sym}
-use mathlib.Core.List.{List}
+use mathlib.Core.Path.{refl, _∙_, ap, sym}
 use native.Mathlib.Omega.{arith}
 use lib.Dec.{lit≤}
 use denote.Ref.{now}
@@ -19,12 +17,6 @@ use Rattle.arguments.proofs.Further.{further}
 use borrow.Author.Needs.{needs}
 use Rattle.arguments.proofs.number.Statement.{statement}
 use Rattle.arguments.proofs.number.Tie as tie
-use Rattle.arguments.proofs.number.Reads as reads
-use Rattle.arguments.proofs.number.Lts as lts
-use Rattle.arguments.proofs.named.Reads as named-reads
-use Rattle.arguments.proofs.range_of.Reads as range-of-reads
-use Rattle.arguments.proofs.unexpected.Reads as unexpected-reads
-use Rattle.tokens.proofs.Cursor.token.Reads as token-reads
 
 -- what the kinds of the two tokens tell
 here : (d : tie.After-token) → Known (now (d .before .before .args .text)) (d .before .before .args .at) (d .token .result)
@@ -35,11 +27,9 @@ beyond :
     → Known (now (d .before .before .before .before .before .before .args .text)) (d .before .before .before .before .token .result .next .at) (d .token2 .result)
 beyond d = known _ _ (d .token2 .result) (d .token2 .ensures)
 
--- src/lib.rt:157:9
 token-requires : tie.Need-token-requires
 token-requires c κs = search needs
 
--- src/lib.rt:160:9
 returns : tie.Need-returns
 unfolding argThen ArgFurther argIn Fits
 returns c =
@@ -48,15 +38,12 @@ returns c =
     let p = d .before .before .pre in
     ((λ call. no-range (a .limit) _ call (nameIn (now (a .text)) (a .name)) _ (d .token .result) (here d) (c .if1 .taken)), (omega arith, p .2, p .1))
 
--- src/lib.rt:162:9
 token-requires-2 : tie.Need-token-requires-2
 token-requires-2 c κs = search needs
 
--- src/lib.rt:164:33
 unexpected-requires : tie.Need-unexpected-requires
 unexpected-requires c κs = search needs
 
--- src/lib.rt:164:9
 returns-2 : tie.Need-returns-2
 unfolding turn argThen ArgFurther
 returns-2 c =
@@ -71,11 +58,9 @@ returns-2 c =
       tt,
     )
 
--- src/lib.rt:166:9
 named-requires : tie.Need-named-requires
 named-requires c κs = let r = known-number (beyond (c .before .before)) (c .if2 .left) in omega (arith, r .wide)
 
--- src/lib.rt:168:5
 range-of-requires : tie.Need-range-of-requires
 range-of-requires c κs =
     let d = c .before .before .before .before in
@@ -83,7 +68,6 @@ range-of-requires c κs =
     let r = known-number (beyond d) (c .before .before .if2 .left) in
     (f .before .before .pre .1 .inside, in-text _ (d .token2 .result) (c .before .named .ensures) r, r .within)
 
--- src/lib.rt:151:1
 returns-3 : tie.Need-returns-3
 unfolding turn
 returns-3 c =

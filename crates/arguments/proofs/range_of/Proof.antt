@@ -1,16 +1,13 @@
 -- `arguments::range_of` meets its contract: what each end is as a count says what becomes of the range. Assumes nothing.
-use Prim.Native.Nat.{ℕ, _≤_}
-use mathlib.Core.Path.{_≡_, refl, _∙_, ap, sym}
-use mathlib.Core.List.{List}
+use mathlib.Core.Path.{_≡_, _∙_, ap, sym}
 use native.Mathlib.Omega.{arith}
-use lib.ListN.{length}
 use denote.Ref.{now}
 use Rattle.counts.specs.declared.Counted.{Counted}
 use Rattle.counts.specs.declared.Counted.the-variants.{Count, Refused}
 use Rattle.counts.specs.Count.{countOf}
 use Rattle.reading.specs.Answer.{Answer}
-use Rattle.reading.specs.Argument.{Arg, rangeOf}
-use Rattle.reading.specs.Syntax.{Call, rangeRead}
+use Rattle.reading.specs.Argument.{Arg}
+use Rattle.reading.specs.Syntax.{rangeRead}
 use Rattle.forms.specs.Items.{nameIn}
 use Rattle.forms.specs.Forms.{argIn}
 use Rattle.forms.specs.Fits.{Fits}
@@ -19,9 +16,6 @@ use Rattle.arguments.proofs.Ranges.{low-bad, high-bad, ends-backwards, 
 use borrow.Author.Needs.{needs}
 use Rattle.arguments.proofs.range_of.Statement.{statement}
 use Rattle.arguments.proofs.range_of.Tie as tie
-use Rattle.arguments.proofs.range_of.Reads as reads
-use Rattle.arguments.proofs.range_of.Lts as lts
-use Rattle.forms.proofs.count_at.Reads as count-at-reads
 
 -- the left end as a count, and the right one
 left : (d : tie.After-count-at) (x : Counted) → d .count-at .result ≡ x → countOf (d .before .before .args .limit) (nameIn (now (d .before .before .args .text)) (d .before .before .args .low) .spelling) ≡ x
@@ -35,19 +29,15 @@ right :
     ≡ x
 right d x e = sym (d .count-at2 .ensures) ∙ e
 
--- src/lib.rt:122:29
 count-at-requires : tie.Need-count-at-requires
 count-at-requires c κs = search needs
 
--- src/lib.rt:122:24
 enum-known-a : tie.Need-enum-known-a
 enum-known-a c = search needs
 
--- src/lib.rt:123:33
 enum-told : tie.Need-enum-told
 enum-told c = search needs
 
--- src/lib.rt:123:9
 returns : tie.Need-returns
 unfolding argThen ArgFurther
 returns c =
@@ -60,19 +50,15 @@ returns c =
       tt,
     )
 
--- src/lib.rt:128:29
 count-at-requires-2 : tie.Need-count-at-requires-2
 count-at-requires-2 c κs = search needs
 
--- src/lib.rt:128:24
 enum-known-b : tie.Need-enum-known-b
 enum-known-b c = search needs
 
--- src/lib.rt:129:33
 enum-told-2 : tie.Need-enum-told-2
 enum-told-2 c = search needs
 
--- src/lib.rt:129:9
 returns-2 : tie.Need-returns-2
 unfolding argThen ArgFurther
 returns-2 c =
@@ -87,7 +73,6 @@ returns-2 c =
       tt,
     )
 
--- src/lib.rt:135:9
 returns-3 : tie.Need-returns-3
 unfolding argThen ArgFurther
 returns-3 c =
@@ -103,7 +88,6 @@ returns-3 c =
       tt,
     )
 
--- src/lib.rt:113:1
 returns-4 : tie.Need-returns-4
 unfolding argThen ArgFurther argIn Fits
 returns-4 c =

@@ -1,8 +1,7 @@
 -- `arguments::read_entry` meets its contract: a word or a number is one more entry, or the 65th, and nothing else may stand there.
 -- Assumes nothing.
-use Prim.Native.Nat.{ℕ, _≤_, _<_}
-use mathlib.Core.Path.{_≡_, refl, _∙_, ap, sym, subst}
-use mathlib.Core.List.{List, _++_}
+use mathlib.Core.Path.{refl, _∙_, ap, sym, subst}
+use mathlib.Core.List.{_++_}
 use native.Mathlib.Omega.{arith}
 use denote.Ref.{now}
 use Rattle.tokens.specs.Token.{Tokens}
@@ -15,11 +14,6 @@ use Rattle.arguments.proofs.Entries.{EntryAt, entry-at, behind, taken, 
 use borrow.Author.Needs.{needs}
 use Rattle.arguments.proofs.read_entry.Statement.{statement}
 use Rattle.arguments.proofs.read_entry.Tie as tie
-use Rattle.arguments.proofs.read_entry.Reads as reads
-use Rattle.arguments.proofs.read_entry.Lts as lts
-use Rattle.arguments.proofs.after_entry.Reads as after-entry-reads
-use Rattle.arguments.proofs.unexpected.Reads as unexpected-reads
-use Rattle.tokens.proofs.Cursor.token.Reads as token-reads
 
 -- what the token's kind tells
 here : (d : tie.After-token) → Known (now (d .before .before .args .text)) (d .before .before .args .at) (d .token .result)
@@ -29,15 +23,12 @@ here d = known _ _ (d .token .result) (d .token .ensures)
 stands : (d : tie.Else1) → EntryAt (now (d .before .before .before .before .before .args .text)) (d .before .before .before .before .before .args .at) (d .before .before .before .token .result)
 stands d = entry-at (here (d .before .before .before)) (d .if1 .left)
 
--- src/lib.rt:204:9
 token-requires : tie.Need-token-requires
 token-requires c κs = search needs
 
--- src/lib.rt:207:31
 unexpected-requires : tie.Need-unexpected-requires
 unexpected-requires c κs = search needs
 
--- src/lib.rt:207:9
 returns : tie.Need-returns
 unfolding turn entryThen EntryFurther EntryListed
 returns c =
@@ -49,16 +40,13 @@ returns c =
       (tt, tt),
     )
 
--- src/lib.rt:210:9
 returns-2 : tie.Need-returns-2
 unfolding entryThen EntryFurther EntryListed
 returns-2 c = ((λ limit call p items l. one-too-many (stands (c .before)) limit call p items (omega (arith, l, c .if2 .taken))), (tt, tt))
 
--- src/lib.rt:215:5
 after-entry-requires : tie.Need-after-entry-requires
 after-entry-requires c κs = search needs
 
--- src/lib.rt:193:1
 returns-3 : tie.Need-returns-3
 returns-3 c =
     let b = c .before .before in

@@ -1,10 +1,6 @@
 -- `arguments::symbol` meets its contract: a word behind the `@` is the symbol's name, and nothing else may follow. Assumes nothing.
-use Prim.Native.Nat.{ℕ, _≤_, _<_}
-use mathlib.Core.Path.{_≡_, refl, _∙_, ap, sym}
-use mathlib.Core.List.{List}
+use mathlib.Core.Path.{refl, _∙_, ap, sym}
 use native.Mathlib.Omega.{arith}
-use borrow.Author.Tests.{ne-eqb}
-use lib.Dec.{lit≤}
 use denote.Ref.{now}
 use Rattle.reading.specs.Statement.{Name}
 use Rattle.reading.specs.Argument.{symbol}
@@ -18,25 +14,17 @@ use Rattle.forms.specs.Fits.{Fits}
 use borrow.Author.Needs.{needs}
 use Rattle.arguments.proofs.symbol.Statement.{statement}
 use Rattle.arguments.proofs.symbol.Tie as tie
-use Rattle.arguments.proofs.symbol.Reads as reads
-use Rattle.arguments.proofs.symbol.Lts as lts
-use Rattle.arguments.proofs.named.Reads as named-reads
-use Rattle.arguments.proofs.unexpected.Reads as unexpected-reads
-use Rattle.tokens.proofs.Cursor.token.Reads as token-reads
 
 -- what the token's kind tells
 here : (d : tie.After-token) → Known (now (d .before .before .args .text)) (d .before .before .args .at) (d .token .result)
 here d = known _ _ (d .token .result) (d .token .ensures)
 
--- src/lib.rt:103:9
 token-requires : tie.Need-token-requires
 token-requires c κs = search needs
 
--- src/lib.rt:106:33
 unexpected-requires : tie.Need-unexpected-requires
 unexpected-requires c κs = search needs
 
--- src/lib.rt:106:9
 returns : tie.Need-returns
 unfolding turn argThen ArgFurther
 returns c =
@@ -48,11 +36,9 @@ returns c =
       tt,
     )
 
--- src/lib.rt:108:9
 named-requires : tie.Need-named-requires
 named-requires c κs = let r = known-word (here (c .before .before .before)) (c .if1 .left) in omega (arith, r .wide)
 
--- src/lib.rt:97:1
 returns-2 : tie.Need-returns-2
 unfolding turn argThen ArgFurther argIn Fits
 returns-2 c =

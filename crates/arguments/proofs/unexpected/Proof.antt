@@ -2,14 +2,10 @@
 use borrow.Author.Tests.{eq-eqb, ne-eqb}
 use Rattle.arguments.proofs.unexpected.Statement.{statement}
 use Rattle.arguments.proofs.unexpected.Tie as tie
-use Rattle.arguments.proofs.unexpected.Reads as reads
-use Rattle.arguments.proofs.unexpected.Lts as lts
 
--- src/lib.rt:74:9
 returns : tie.Need-returns
 returns c = simp (eq-eqb _ _ (c .if1 .taken))
 
--- src/lib.rt:70:1
 returns-2 : tie.Need-returns-2
 returns-2 c = simp (ne-eqb _ _ (c .if1 .left))
 

@@ -1,12 +1,8 @@
 -- `calls::behind` meets its contract: a `,` or the `)` behind an argument leads on with one argument more. Assumes nothing.
-use Prim.Native.Nat.{ℕ, _+_, _-_, _≤_, _<_}
-use mathlib.Core.Path.{_≡_, refl, _∙_, ap, sym, subst}
-use mathlib.Core.Bool.{Bool}
-use mathlib.Core.List.{List, [], _∷_, _++_}
+use mathlib.Core.Path.{_∙_, ap, sym, subst}
+use mathlib.Core.List.{[], _∷_, _++_}
 use native.Mathlib.Omega.{arith}
-use lib.ListN.{length}
 use denote.Ref.{now}
-use Rattle.reading.specs.Argument as argument
 use Rattle.reading.specs.Syntax.{featureCall, closed}
 use Rattle.forms.specs.Forms.{argIn}
 use Rattle.forms.specs.declared.Args.{Args}
@@ -17,36 +13,25 @@ use Rattle.calls.proofs.Held.{added-count, added-fit, added-held}
 use borrow.Author.Needs.{needs}
 use Rattle.calls.proofs.behind.Statement.{statement}
 use Rattle.calls.proofs.behind.Tie as tie
-use Rattle.calls.proofs.behind.Reads as reads
-use Rattle.calls.proofs.behind.Lts as lts
-use Rattle.arguments.proofs.after_argument.Reads as after-argument-reads
-use Rattle.calls.proofs.with_arg.Reads as with-arg-reads
 
--- src/lib.rt:127:11
 after-argument-requires : tie.Need-after-argument-requires
 after-argument-requires c κs = search needs
 
--- src/lib.rt:128:31
 enum-known-next : tie.Need-enum-known-next
 enum-known-next c = search needs
 
--- src/lib.rt:129:17
 with-arg-requires : tie.Need-with-arg-requires
 with-arg-requires c κs = search needs
 
--- src/lib.rt:132:22
 enum-known-next-2 : tie.Need-enum-known-next-2
 enum-known-next-2 c = search needs
 
--- src/lib.rt:133:17
 with-arg-requires-2 : tie.Need-with-arg-requires-2
 with-arg-requires-2 c κs = search needs
 
--- src/lib.rt:136:24
 enum-known-r : tie.Need-enum-known-r
 enum-known-r c = search needs
 
--- src/lib.rt:118:1
 returns : tie.Need-returns
 unfolding BehindThen MoreFurther afterThen AfterFurther
 returns c =
@@ -71,7 +56,6 @@ returns c =
       ),
     )
 
--- src/lib.rt:118:1
 returns-2 : tie.Need-returns-2
 unfolding closed BehindThen MoreFurther afterThen AfterFurther
 returns-2 c =
@@ -91,7 +75,6 @@ returns-2 c =
       (f .0, f .1, subst (AllFit s) (sym w) (added-fit s (a .args) (a .arg) (p .1) (p .2))),
     )
 
--- src/lib.rt:118:1
 returns-3 : tie.Need-returns-3
 unfolding BehindThen MoreFurther afterThen
 returns-3 c =

@@ -1,7 +1,5 @@
 -- `calls::let_name` meets its contract: a word and a `,`, and then the argument. Assumes nothing.
-use Prim.Native.Nat.{ℕ, _+_, _-_, _≤_, _<_}
-use mathlib.Core.Path.{_≡_, refl, _∙_, ap, sym, subst}
-use mathlib.Core.List.{List, []}
+use mathlib.Core.Path.{refl, _∙_, ap, sym}
 use native.Mathlib.Omega.{arith}
 use borrow.Author.Tests.{ne-eqb}
 use lib.Dec.{lit≤}
@@ -18,12 +16,6 @@ use Rattle.calls.proofs.Going.{let-further}
 use borrow.Author.Needs.{needs}
 use Rattle.calls.proofs.let_name.Statement.{statement}
 use Rattle.calls.proofs.let_name.Tie as tie
-use Rattle.calls.proofs.let_name.Reads as reads
-use Rattle.calls.proofs.let_name.Lts as lts
-use Rattle.arguments.proofs.named.Reads as named-reads
-use Rattle.arguments.proofs.unexpected.Reads as unexpected-reads
-use Rattle.calls.proofs.let_value.Reads as let-value-reads
-use Rattle.tokens.proofs.Cursor.token.Reads as token-reads
 
 -- what the token's kind tells
 here : (d : tie.After-token) → Known (now (d .before .before .args .text)) (d .before .before .args .at) (d .token .result)
@@ -35,15 +27,12 @@ beyond :
     (e .token2 .result)
 beyond e = known _ _ (e .token2 .result) (e .token2 .ensures)
 
--- src/lib.rt:269:9
 token-requires : tie.Need-token-requires
 token-requires c κs = search needs
 
--- src/lib.rt:272:33
 unexpected-requires : tie.Need-unexpected-requires
 unexpected-requires c κs = search needs
 
--- src/lib.rt:272:9
 returns : tie.Need-returns
 unfolding turn letThen LetFurther
 returns c =
@@ -53,15 +42,12 @@ returns c =
       tt,
     )
 
--- src/lib.rt:274:9
 token-requires-2 : tie.Need-token-requires-2
 token-requires-2 c κs = search needs
 
--- src/lib.rt:277:33
 unexpected-requires-2 : tie.Need-unexpected-requires-2
 unexpected-requires-2 c κs = search needs
 
--- src/lib.rt:277:9
 returns-2 : tie.Need-returns-2
 unfolding turn letThen LetFurther
 returns-2 c =
@@ -76,13 +62,11 @@ returns-2 c =
       tt,
     )
 
--- src/lib.rt:279:9
 named-requires : tie.Need-named-requires
 named-requires c κs =
     let r = known-word (here (c .before .before .before .before .before .before .before)) (c .before .before .before .before .if1 .left) in
     omega (arith, r .wide)
 
--- src/lib.rt:280:5
 let-value-requires : tie.Need-let-value-requires
 let-value-requires c κs =
     let e = c .before .before .before .before in
@@ -90,7 +74,6 @@ let-value-requires c κs =
     let r = known-word (here d) (e .before .if1 .left) in
     (d .before .before .pre, in-text _ (d .token .result) (c .named .ensures) r)
 
--- src/lib.rt:263:1
 returns-3 : tie.Need-returns-3
 unfolding turn
 returns-3 c =

@@ -1,12 +1,7 @@
 -- `calls::one_more` meets its contract: an argument and what stands behind it, or a `)` in the place of the first. Assumes nothing.
-use Prim.Native.Nat.{ℕ, _+_, _-_, _≤_, _<_}
-use mathlib.Core.Path.{_≡_, refl, _∙_, ap, sym, subst}
-use mathlib.Core.Bool.{Bool}
-use mathlib.Core.List.{List, [], _∷_, _++_}
+use mathlib.Core.Path.{_∙_, ap, subst}
 use native.Mathlib.Omega.{arith}
-use lib.ListN.{length}
 use denote.Ref.{now}
-use Rattle.reading.specs.Argument as argument
 use Rattle.reading.specs.Syntax.{Step, featureCall}
 use Rattle.forms.specs.Forms.{argIn}
 use Rattle.arguments.specs.Answers.{stepIn, argThen, ArgFurther}
@@ -15,20 +10,13 @@ use Rattle.calls.proofs.Going.{more-then, more-further, close-none, clo
 use borrow.Author.Needs.{needs}
 use Rattle.calls.proofs.one_more.Statement.{statement}
 use Rattle.calls.proofs.one_more.Tie as tie
-use Rattle.calls.proofs.one_more.Reads as reads
-use Rattle.calls.proofs.one_more.Lts as lts
-use Rattle.arguments.proofs.argument.Reads as argument-reads
-use Rattle.calls.proofs.behind.Reads as behind-reads
 
--- src/lib.rt:146:11
 argument-requires : tie.Need-argument-requires
 argument-requires c κs = search needs
 
--- src/lib.rt:147:22
 enum-known-arg : tie.Need-enum-known-arg
 enum-known-arg c = search needs
 
--- src/lib.rt:147:36
 behind-requires : tie.Need-behind-requires
 unfolding ArgFurther
 behind-requires c κs =
@@ -38,11 +26,9 @@ behind-requires c κs =
     let f = subst (ArgFurther _ _) (x .1) (d .argument .ensures .1) in
     (p .0, p .1, f .2, omega (arith, p .2, f .0), f .1)
 
--- src/lib.rt:148:30
 enum-known-o : tie.Need-enum-known-o
 enum-known-o c = search needs
 
--- src/lib.rt:150:17
 returns : tie.Need-returns
 unfolding MoreThen MoreFurther argThen ArgFurther
 returns c =
@@ -63,11 +49,9 @@ returns c =
       (f .0, f .1, d .before .before .pre .1),
     )
 
--- src/lib.rt:157:26
 enum-known-r : tie.Need-enum-known-r
 enum-known-r c = search needs
 
--- src/lib.rt:141:1
 returns-2 : tie.Need-returns-2
 unfolding argThen ArgFurther
 returns-2 c =
@@ -83,7 +67,6 @@ returns-2 c =
       more-further s (a .at) (x .0 .1 .0 .at) (a .args .count) (c .behind .result) (f .0) (c .behind .ensures .1),
     )
 
--- src/lib.rt:141:1
 returns-3 : tie.Need-returns-3
 unfolding MoreThen MoreFurther argThen
 returns-3 c =
@@ -99,7 +82,6 @@ returns-3 c =
       tt,
     )
 
--- src/lib.rt:141:1
 returns-4 : tie.Need-returns-4
 unfolding MoreThen MoreFurther argThen
 returns-4 c =

@@ -1,9 +1,9 @@
 -- `calls::read_args` meets its contract. The invariant: arguments were read that are held, and reading from the first is reading on from here
 -- behind them. Assumes nothing.
-use Prim.Native.Nat.{ℕ, _+_, _-_, _≤_, _<_}
+use Prim.Native.Nat.{ℕ, _-_, _≤_}
 use mathlib.Core.Path.{_≡_, refl, _∙_, ap, sym, subst}
 use mathlib.Core.Bool.{Bool}
-use mathlib.Core.List.{List, [], _∷_, _++_}
+use mathlib.Core.List.{List, []}
 use native.Mathlib.Omega.{arith}
 use borrow.Author.Needs.{needs}
 use lib.ListN.{length}
@@ -11,20 +11,15 @@ use denote.Ref.{now}
 use Rattle.reading.specs.Statement.{Name, Feature}
 use Rattle.reading.specs.Answer.{Answer}
 use Rattle.reading.specs.Argument as argument
-use Rattle.reading.specs.Feature.{buildFeature}
 use Rattle.reading.specs.Syntax.{featureCall, featureMade}
 use Rattle.reading.specs.Syntax as syntax
 use Rattle.forms.specs.declared.Args.{Args}
 use Rattle.forms.specs.Fits.{AllFit}
 use Rattle.arguments.specs.Answers.{readIn, stepIn}
-use Rattle.calls.specs.Answers.{noArgs, Holds, MoreThen, MoreFurther, argsThen, ArgsFurther}
+use Rattle.calls.specs.Answers.{Holds, MoreThen, MoreFurther, argsThen, ArgsFurther}
 use Rattle.calls.proofs.Held.{none-held, none-fit, held-build}
 use Rattle.calls.proofs.read_args.Statement.{statement}
 use Rattle.calls.proofs.read_args.Tie as tie
-use Rattle.calls.proofs.read_args.Reads as reads
-use Rattle.calls.proofs.read_args.Lts as lts
-use Rattle.calls.proofs.no_args.Reads as no-args-reads
-use Rattle.calls.proofs.one_more.Reads as one-more-reads
 
 record Gone (s : List ℕ) (limit o : ℕ) (xs : Args) (cur : ℕ) : Type 0 where
   before : List argument.Arg
@@ -40,11 +35,9 @@ Inv-loop text classes at limit args₀ cur₀ args cur = Gone text limit at args
 abbrev μ-loop : tie.MeasureT-loop
 μ-loop text classes at limit args₀ cur₀ args cur = length text - cur
 
--- src/lib.rt:172:9
 no-args-requires : tie.Need-no-args-requires Inv-loop μ-loop
 no-args-requires c κs = tt
 
--- src/lib.rt:174:5
 loop-holds : tie.Need-loop-holds Inv-loop μ-loop
 loop-holds c =
     let s = now (c .before .before .args .text) in
@@ -58,15 +51,12 @@ loop-holds c =
       past = omega arith;
     }
 
--- src/lib.rt:175:15
 one-more-requires : tie.Need-one-more-requires Inv-loop μ-loop
 one-more-requires c κs = (c .before .before .before .pre, c .loop .inv .fit, c .loop .inv .few)
 
--- src/lib.rt:176:27
 enum-known-all : tie.Need-enum-known-all Inv-loop μ-loop
 enum-known-all c = search needs
 
--- src/lib.rt:174:5
 loop-less : tie.Need-loop-less Inv-loop μ-loop
 unfolding MoreFurther
 loop-less c =
@@ -79,7 +69,6 @@ loop-less c =
     let f = subst (MoreFurther s (l .loop .cur) (l .loop .args .count)) (x .1) (d .one-more .ensures .1) in
     omega (arith, f .0, f .1)
 
--- src/lib.rt:174:5
 loop-again : tie.Need-loop-again Inv-loop μ-loop
 unfolding MoreFurther MoreThen
 loop-again c =
@@ -100,11 +89,9 @@ loop-again c =
       past = omega (arith, f .0, g .past);
     }
 
--- src/lib.rt:180:27
 enum-known-all-2 : tie.Need-enum-known-all-2 Inv-loop μ-loop
 enum-known-all-2 c = search needs
 
--- src/lib.rt:180:41
 returns : tie.Need-returns Inv-loop μ-loop
 unfolding MoreFurther MoreThen argsThen ArgsFurther
 returns c =
@@ -123,11 +110,9 @@ returns c =
       (omega (arith, f .0, g .past), f .1, f .2),
     )
 
--- src/lib.rt:181:30
 enum-known-r : tie.Need-enum-known-r Inv-loop μ-loop
 enum-known-r c = search needs
 
--- src/lib.rt:181:36
 returns-2 : tie.Need-returns-2 Inv-loop μ-loop
 unfolding MoreThen argsThen ArgsFurther
 returns-2 c =

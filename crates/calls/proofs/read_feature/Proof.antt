@@ -1,7 +1,5 @@
 -- `calls::read_feature` meets its contract: `(`, or `?` and `(`, and then the arguments. Assumes nothing.
-use Prim.Native.Nat.{ℕ, _+_, _-_, _≤_, _<_}
-use mathlib.Core.Path.{_≡_, refl, _∙_, ap, sym, subst}
-use mathlib.Core.List.{List, []}
+use mathlib.Core.Path.{refl, _∙_, ap, sym}
 use native.Mathlib.Omega.{arith}
 use borrow.Author.Tests.{ne-eqb}
 use lib.Dec.{lit≤}
@@ -15,11 +13,6 @@ use Rattle.calls.proofs.Going.{feature-further}
 use borrow.Author.Needs.{needs}
 use Rattle.calls.proofs.read_feature.Statement.{statement}
 use Rattle.calls.proofs.read_feature.Tie as tie
-use Rattle.calls.proofs.read_feature.Reads as reads
-use Rattle.calls.proofs.read_feature.Lts as lts
-use Rattle.arguments.proofs.unexpected.Reads as unexpected-reads
-use Rattle.calls.proofs.with_mark.Reads as with-mark-reads
-use Rattle.tokens.proofs.Cursor.token.Reads as token-reads
 
 -- what the token's kind tells
 here : (d : tie.After-token) → Known (now (d .before .before .args .text)) (d .before .before .args .at) (d .token .result)
@@ -31,15 +24,12 @@ beyond :
     (e .before .before .before .before .before .before .token .result .next .at) (e .token2 .result)
 beyond e = known _ _ (e .token2 .result) (e .token2 .ensures)
 
--- src/lib.rt:214:9
 token-requires : tie.Need-token-requires
 token-requires c κs = search needs
 
--- src/lib.rt:217:9
 with-mark-requires : tie.Need-with-mark-requires
 with-mark-requires c κs = search needs
 
--- src/lib.rt:217:9
 returns : tie.Need-returns
 unfolding turn
 returns c =
@@ -50,11 +40,9 @@ returns c =
       feature-further _ _ _ (c .with-mark .result) (omega (arith, r .ahead, r .wide)) (c .with-mark .ensures .1),
     )
 
--- src/lib.rt:220:37
 unexpected-requires : tie.Need-unexpected-requires
 unexpected-requires c κs = search needs
 
--- src/lib.rt:220:9
 returns-2 : tie.Need-returns-2
 unfolding turn featureThen FeatureFurther
 returns-2 c =
@@ -66,15 +54,12 @@ returns-2 c =
       tt,
     )
 
--- src/lib.rt:222:9
 token-requires-2 : tie.Need-token-requires-2
 token-requires-2 c κs = search needs
 
--- src/lib.rt:225:37
 unexpected-requires-2 : tie.Need-unexpected-requires-2
 unexpected-requires-2 c κs = search needs
 
--- src/lib.rt:225:9
 returns-3 : tie.Need-returns-3
 unfolding turn featureThen FeatureFurther
 returns-3 c =
@@ -90,11 +75,9 @@ returns-3 c =
       tt,
     )
 
--- src/lib.rt:227:5
 with-mark-requires-2 : tie.Need-with-mark-requires-2
 with-mark-requires-2 c κs = search needs
 
--- src/lib.rt:208:1
 returns-4 : tie.Need-returns-4
 unfolding turn
 returns-4 c =

@@ -1,7 +1,5 @@
 -- `calls::read_let` meets its contract: `(`, and then the name. Assumes nothing.
-use Prim.Native.Nat.{ℕ, _+_, _-_, _≤_, _<_}
-use mathlib.Core.Path.{_≡_, refl, _∙_, ap, sym, subst}
-use mathlib.Core.List.{List, []}
+use mathlib.Core.Path.{refl, _∙_, ap, sym}
 use native.Mathlib.Omega.{arith}
 use borrow.Author.Tests.{ne-eqb}
 use lib.Dec.{lit≤}
@@ -15,25 +13,17 @@ use Rattle.calls.proofs.Going.{let-further}
 use borrow.Author.Needs.{needs}
 use Rattle.calls.proofs.read_let.Statement.{statement}
 use Rattle.calls.proofs.read_let.Tie as tie
-use Rattle.calls.proofs.read_let.Reads as reads
-use Rattle.calls.proofs.read_let.Lts as lts
-use Rattle.arguments.proofs.unexpected.Reads as unexpected-reads
-use Rattle.calls.proofs.let_name.Reads as let-name-reads
-use Rattle.tokens.proofs.Cursor.token.Reads as token-reads
 
 -- what the token's kind tells
 here : (d : tie.After-token) → Known (now (d .before .before .args .text)) (d .before .before .args .at) (d .token .result)
 here d = known _ _ (d .token .result) (d .token .ensures)
 
--- src/lib.rt:290:9
 token-requires : tie.Need-token-requires
 token-requires c κs = search needs
 
--- src/lib.rt:293:33
 unexpected-requires : tie.Need-unexpected-requires
 unexpected-requires c κs = search needs
 
--- src/lib.rt:293:9
 returns : tie.Need-returns
 unfolding turn letThen LetFurther
 returns c =
@@ -44,11 +34,9 @@ returns c =
       tt,
     )
 
--- src/lib.rt:295:5
 let-name-requires : tie.Need-let-name-requires
 let-name-requires c κs = search needs
 
--- src/lib.rt:284:1
 returns-2 : tie.Need-returns-2
 unfolding turn
 returns-2 c =

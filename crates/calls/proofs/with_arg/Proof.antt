@@ -5,36 +5,28 @@ use Rattle.calls.specs.Answers.{addedAt}
 use borrow.Author.Needs.{needs}
 use Rattle.calls.proofs.with_arg.Statement.{statement}
 use Rattle.calls.proofs.with_arg.Tie as tie
-use Rattle.calls.proofs.with_arg.Reads as reads
-use Rattle.calls.proofs.with_arg.Lts as lts
 
--- src/lib.rt:77:16
 add-more : tie.Need-add-more
 add-more c = search needs
 
--- src/lib.rt:68:1
 returns : tie.Need-returns
 unfolding addedAt
 returns c = simp (eq-eqb _ 0 (c .match .keys1))
 
--- src/lib.rt:68:1
 returns-2 : tie.Need-returns-2
 unfolding addedAt
 returns-2 c = let k = c .match .keys2 in simp (ne-eqb (c .before .args .args .count) 0 (λ q. omega arith), eq-eqb _ 1 k)
 
--- src/lib.rt:68:1
 returns-3 : tie.Need-returns-3
 unfolding addedAt
 returns-3 c = let k = c .match .keys3 in simp (ne-eqb (c .before .args .args .count) 0 (λ q. omega arith), ne-eqb (c .before .args .args .count) 1 (λ q. omega arith), eq-eqb _ 2 k)
 
--- src/lib.rt:68:1
 returns-4 : tie.Need-returns-4
 unfolding addedAt
 returns-4 c =
     let k = c .match .keys4 in
     simp (ne-eqb (c .before .args .args .count) 0 (λ q. omega arith), ne-eqb (c .before .args .args .count) 1 (λ q. omega arith), ne-eqb (c .before .args .args .count) 2 (λ q. omega arith), eq-eqb _ 3 k)
 
--- src/lib.rt:68:1
 returns-5 : tie.Need-returns-5
 unfolding addedAt
 returns-5 c =

@@ -1,32 +1,20 @@
 -- `calls::with_mark` meets its contract: the arguments, with the mark that is given. Assumes nothing.
-use Prim.Native.Nat.{ℕ, _+_, _-_, _≤_, _<_}
-use mathlib.Core.Path.{_≡_, refl, _∙_, ap, sym, subst}
-use mathlib.Core.List.{List, []}
-use native.Mathlib.Omega.{arith}
-use borrow.Author.Tests.{ne-eqb}
-use lib.Dec.{lit≤}
+use mathlib.Core.Path.{_∙_, ap, subst}
 use denote.Ref.{now}
 use Rattle.calls.specs.Answers.{argsThen, ArgsFurther, featureThen, FeatureFurther}
 use borrow.Author.Needs.{needs}
 use Rattle.calls.proofs.with_mark.Statement.{statement}
 use Rattle.calls.proofs.with_mark.Tie as tie
-use Rattle.calls.proofs.with_mark.Reads as reads
-use Rattle.calls.proofs.with_mark.Lts as lts
-use Rattle.calls.proofs.read_args.Reads as read-args-reads
 
--- src/lib.rt:197:11
 read-args-requires : tie.Need-read-args-requires
 read-args-requires c κs = search needs
 
--- src/lib.rt:198:24
 enum-known-args : tie.Need-enum-known-args
 enum-known-args c = search needs
 
--- src/lib.rt:203:27
 enum-known-r : tie.Need-enum-known-r
 enum-known-r c = search needs
 
--- src/lib.rt:187:1
 returns : tie.Need-returns
 unfolding argsThen ArgsFurther featureThen FeatureFurther
 returns c =
@@ -38,7 +26,6 @@ returns c =
       subst (ArgsFurther s (a .at)) (x .1) (d .read-args .ensures .1),
     )
 
--- src/lib.rt:187:1
 returns-2 : tie.Need-returns-2
 unfolding argsThen featureThen FeatureFurther
 returns-2 c =

@@ -6,9 +6,6 @@ use denote.Ref.{now}
 use Rattle.dumachik.specs.Scan.{strayAt}
 use Rattle.dumachik.proofs.mfl_scan.Statement.{statement}
 use Rattle.dumachik.proofs.mfl_scan.Tie as tie
-use Rattle.dumachik.proofs.mfl_scan.Reads as reads
-use Rattle.dumachik.proofs.mfl_scan.Lts as lts
-use Rattle.tokens.proofs.scan_text.Reads as scan-text-reads
 
 scan-text-requires : tie.Need-scan-text-requires
 scan-text-requires c κs = search needs

@@ -8,31 +8,22 @@ use Rattle.counts.specs.Count.{countOf}
 use borrow.Author.Needs.{needs}
 use Rattle.forms.proofs.count_at.Statement.{statement}
 use Rattle.forms.proofs.count_at.Tie as tie
-use Rattle.forms.proofs.count_at.Reads as reads
-use Rattle.forms.proofs.count_at.Lts as lts
-use Rattle.counts.proofs.count_of.Reads as count-of-reads
 
--- src/lib.rt:146:15
 add-end : tie.Need-add-end
 add-end c = search needs
 
--- src/lib.rt:147:22
 sub-count-of : tie.Need-sub-count-of
 sub-count-of c = search needs
 
--- src/lib.rt:147:22
 part-count-of-start : tie.Need-part-count-of-start
 part-count-of-start c = search needs
 
--- src/lib.rt:147:22
 part-count-of-end : tie.Need-part-count-of-end
 part-count-of-end c = search needs
 
--- src/lib.rt:147:5
 count-of-requires : tie.Need-count-of-requires
 count-of-requires c κs = search needs
 
--- src/lib.rt:141:1
 returns : tie.Need-returns
 returns c =
     let a = c .before .before .before .before .args in

@@ -1,50 +1,36 @@
 -- `statements::behind` meets its contract: a separator or the text's end may follow a statement. Assumes nothing.
-use Prim.Native.Nat.{ℕ, suc, _+_, _-_, _≤_, _<_}
-use mathlib.Core.Path.{_≡_, refl, _∙_, ap, sym, subst}
-use mathlib.Core.List.{List, []}
-use native.Mathlib.Omega.{arith}
-use lib.ListN.{length}
+use mathlib.Core.Path.{_∙_, ap, sym}
 use denote.Ref.{now}
 use lib.Dec.{lit≤}
-use Rattle.reading.specs.Answer.{refused}
 use Rattle.tokens.proofs.Views.{Known, known, known-mark, known-end}
 use Rattle.statements.specs.Answers.{EndedThen}
 use Rattle.statements.proofs.Whole.{refusedAs, ended-crowded, ended-separator, ended-finish}
 use borrow.Author.Needs.{needs}
 use Rattle.statements.proofs.behind.Statement.{statement}
 use Rattle.statements.proofs.behind.Tie as tie
-use Rattle.statements.proofs.behind.Reads as reads
-use Rattle.statements.proofs.behind.Lts as lts
-use Rattle.statements.proofs.crowded.Reads as crowded-reads
-use Rattle.tokens.proofs.Cursor.token.Reads as token-reads
 
 -- what the token's kind tells
 here : (d : tie.After-token) → Known (now (d .before .before .args .text)) (d .before .before .args .at) (d .token .result)
 here d = known _ _ (d .token .result) (d .token .ensures)
 
--- src/lib.rt:158:9
 token-requires : tie.Need-token-requires
 token-requires c κs = search needs
 
--- src/lib.rt:160:9
 returns : tie.Need-returns
 unfolding EndedThen
 returns c =
     let d = c .before .before in
     λ limit. ended-separator limit _ _ _ (d .token .result) (known-mark (here d) 59 (c .if1 .taken) (lit≤ tt))
 
--- src/lib.rt:163:9
 returns-2 : tie.Need-returns-2
 unfolding EndedThen
 returns-2 c =
     let d = c .before .before .before .before in
     λ limit. ended-finish limit _ _ _ (d .token .result) (known-end (here d) (c .if2 .taken))
 
--- src/lib.rt:165:20
 crowded-requires : tie.Need-crowded-requires
 crowded-requires c κs = search needs
 
--- src/lib.rt:153:1
 returns-3 : tie.Need-returns-3
 unfolding EndedThen
 returns-3 c =

@@ -1,24 +1,20 @@
 -- `statements::count_from` meets its contract. The invariant: the statements of the text are so many and those from here on. Assumes nothing.
-use Prim.Native.Nat.{ℕ, suc, _+_, _-_, _≤_, _<_}
+use Prim.Native.Nat.{ℕ, suc, _-_, _≤_}
 use mathlib.Core.Path.{_≡_, refl, _∙_, ap, sym, subst}
-use mathlib.Core.List.{List, []}
+use mathlib.Core.List.{List}
 use native.Mathlib.Omega.{arith}
 use lib.ListN.{length}
 use denote.Ref.{now}
 use borrow.Author.Needs.{needs}
 use native.Mathlib.Nat.{add-zero}
 use native.Mathlib.Numerals.{add-one}
-use Rattle.reading.specs.Statement.{Statement}
-use Rattle.reading.specs.Answer.{Answer, accepted}
+use Rattle.reading.specs.Answer.{accepted}
 use Rattle.reading.specs.Read.{between}
 use Rattle.forms.specs.Forms.{statementIn}
 use Rattle.statements.specs.Answers.{readAt, nextThen, NextFurther, counted, countAs}
 use Rattle.statements.proofs.Whole.{counted-more}
 use Rattle.statements.proofs.count_from.Statement.{statement}
 use Rattle.statements.proofs.count_from.Tie as tie
-use Rattle.statements.proofs.count_from.Reads as reads
-use Rattle.statements.proofs.count_from.Lts as lts
-use Rattle.statements.proofs.next_statement.Reads as next-statement-reads
 
 record Gone (s : List ℕ) (limit n cur : ℕ) : Type 0 where
   same : counted 0 (readAt limit s 0 between 0) ≡ counted n (readAt limit s n between cur)
@@ -30,21 +26,17 @@ Inv-loop text classes labels keys limit n₀ cur₀ n cur = Gone text limit n cu
 abbrev μ-loop : tie.MeasureT-loop
 μ-loop text classes labels keys limit n₀ cur₀ n cur = length text - cur
 
--- src/lib.rt:224:5
 loop-holds : tie.Need-loop-holds Inv-loop μ-loop
 loop-holds c = record { same = refl; few = omega arith }
 
--- src/lib.rt:225:15
 next-statement-requires : tie.Need-next-statement-requires Inv-loop μ-loop
 next-statement-requires c κs =
     let p = c .before .before .pre in
     (p .0, p .1, p .2, c .loop .inv .few)
 
--- src/lib.rt:226:36
 enum-known-c : tie.Need-enum-known-c Inv-loop μ-loop
 enum-known-c c = search needs
 
--- src/lib.rt:228:17
 add-n : tie.Need-add-n Inv-loop μ-loop
 unfolding NextFurther
 add-n c =
@@ -57,7 +49,6 @@ add-n c =
     let f = subst (NextFurther s (l .loop .cur)) (x .1) (d .next-statement .ensures .1) in
     omega (arith, f .0, f .1, g .few)
 
--- src/lib.rt:224:5
 loop-less : tie.Need-loop-less Inv-loop μ-loop
 unfolding NextFurther
 loop-less c =
@@ -70,7 +61,6 @@ loop-less c =
     let f = subst (NextFurther s (l .loop .cur)) (x .1) (d .next-statement .ensures .1) in
     omega (arith, f .0, f .1)
 
--- src/lib.rt:224:5
 loop-again : tie.Need-loop-again Inv-loop μ-loop
 unfolding nextThen NextFurther
 loop-again c =
@@ -90,11 +80,9 @@ loop-again c =
       few = omega (arith, f .0, g .few);
     }
 
--- src/lib.rt:230:30
 enum-told : tie.Need-enum-told Inv-loop μ-loop
 enum-told c = search needs
 
--- src/lib.rt:230:30
 returns : tie.Need-returns Inv-loop μ-loop
 unfolding nextThen countAs
 returns c =
@@ -108,11 +96,9 @@ returns c =
     ∙ ap accepted (add-zero (l .loop .n))
     )
 
--- src/lib.rt:231:31
 enum-known-r : tie.Need-enum-known-r Inv-loop μ-loop
 enum-known-r c = search needs
 
--- src/lib.rt:231:37
 returns-2 : tie.Need-returns-2 Inv-loop μ-loop
 unfolding nextThen countAs
 returns-2 c =

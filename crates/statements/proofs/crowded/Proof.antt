@@ -2,18 +2,13 @@
 use borrow.Author.Tests.{eq-eqb, ne-eqb, le-leb, lt-leb}
 use Rattle.statements.proofs.crowded.Statement.{statement}
 use Rattle.statements.proofs.crowded.Tie as tie
-use Rattle.statements.proofs.crowded.Reads as reads
-use Rattle.statements.proofs.crowded.Lts as lts
 
--- src/lib.rt:173:9
 returns : tie.Need-returns
 returns c = simp (eq-eqb _ 2 (c .if1 .taken))
 
--- src/lib.rt:179:9
 returns-2 : tie.Need-returns-2
 returns-2 c = simp (ne-eqb _ 2 (c .before .if1 .left), le-leb 256 _ (c .if2 .taken))
 
--- src/lib.rt:169:1
 returns-3 : tie.Need-returns-3
 returns-3 c = simp (ne-eqb _ 2 (c .before .if1 .left), lt-leb 256 _ (c .if2 .left))
 

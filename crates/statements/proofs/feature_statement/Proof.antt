@@ -1,9 +1,5 @@
 -- `statements::feature_statement` meets its contract: the rest of the statement, and what the keyword makes of it. Assumes nothing.
-use Prim.Native.Nat.{ℕ, suc, _+_, _-_, _≤_, _<_}
-use mathlib.Core.Path.{_≡_, refl, _∙_, ap, sym, subst}
-use mathlib.Core.List.{List, []}
-use native.Mathlib.Omega.{arith}
-use lib.ListN.{length}
+use mathlib.Core.Path.{_∙_, ap, sym, subst}
 use denote.Ref.{now}
 use Rattle.reading.specs.Statement.{Feature}
 use Rattle.reading.specs.Answer.{Answer}
@@ -17,20 +13,13 @@ use Rattle.statements.specs.Answers.{statementThen, StatementFurther}
 use borrow.Author.Needs.{needs}
 use Rattle.statements.proofs.feature_statement.Statement.{statement}
 use Rattle.statements.proofs.feature_statement.Tie as tie
-use Rattle.statements.proofs.feature_statement.Reads as reads
-use Rattle.statements.proofs.feature_statement.Lts as lts
-use Rattle.calls.proofs.read_feature.Reads as read-feature-reads
-use Rattle.features.proofs.build.Reads as build-reads
 
--- src/lib.rt:105:11
 read-feature-requires : tie.Need-read-feature-requires
 read-feature-requires c κs = search needs
 
--- src/lib.rt:107:13
 enum-known-optional : tie.Need-enum-known-optional
 enum-known-optional c = search needs
 
--- src/lib.rt:110:20
 build-requires : tie.Need-build-requires
 unfolding FeatureFurther
 build-requires c κs =
@@ -41,19 +30,15 @@ build-requires c κs =
     let f = subst (FeatureFurther (now (a .text)) (a .at)) (x .1) (d .read-feature .ensures .1) in
     ((p .0, p .1, p .2), (p .3, f .2))
 
--- src/lib.rt:111:28
 enum-known-feature : tie.Need-enum-known-feature
 enum-known-feature c = search needs
 
--- src/lib.rt:112:28
 enum-known-r : tie.Need-enum-known-r
 enum-known-r c = search needs
 
--- src/lib.rt:114:30
 enum-known-r-2 : tie.Need-enum-known-r-2
 enum-known-r-2 c = search needs
 
--- src/lib.rt:100:1
 returns : tie.Need-returns
 unfolding featureThen FeatureFurther featureMade builtAs statementThen StatementFurther statementIn
 returns c =
@@ -71,7 +56,6 @@ returns c =
       (f .0, f .1),
     )
 
--- src/lib.rt:100:1
 returns-2 : tie.Need-returns-2
 unfolding featureThen featureMade builtAs statementThen StatementFurther
 returns-2 c =
@@ -88,7 +72,6 @@ returns-2 c =
       tt,
     )
 
--- src/lib.rt:100:1
 returns-3 : tie.Need-returns-3
 unfolding featureThen statementThen StatementFurther
 returns-3 c =

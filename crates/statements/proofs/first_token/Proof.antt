@@ -1,7 +1,7 @@
 -- `statements::first_token` meets its contract. The invariant: reading from here on is reading from the start. Assumes nothing.
-use Prim.Native.Nat.{ℕ, suc, _+_, _-_, _≤_, _<_}
-use mathlib.Core.Path.{_≡_, refl, _∙_, ap, sym, subst}
-use mathlib.Core.List.{List, []}
+use Prim.Native.Nat.{ℕ, _-_, _≤_}
+use mathlib.Core.Path.{_≡_, refl, _∙_}
+use mathlib.Core.List.{List}
 use native.Mathlib.Omega.{arith}
 use lib.ListN.{length}
 use denote.Ref.{now}
@@ -12,9 +12,6 @@ use Rattle.statements.specs.Answers.{readAt}
 use Rattle.statements.proofs.Whole.{past-separator}
 use Rattle.statements.proofs.first_token.Statement.{statement}
 use Rattle.statements.proofs.first_token.Tie as tie
-use Rattle.statements.proofs.first_token.Reads as reads
-use Rattle.statements.proofs.first_token.Lts as lts
-use Rattle.tokens.proofs.Cursor.token.Reads as token-reads
 
 record Gone (s : List ℕ) (o cur : ℕ) : Type 0 where
   same : (limit n : ℕ) → readAt limit s n between o ≡ readAt limit s n between cur
@@ -29,15 +26,12 @@ abbrev μ-loop : tie.MeasureT-loop
 here : (d : tie.After-token Inv-loop μ-loop) → Known (now (d .before .before .before .args .text)) (d .before .loop .cur) (d .token .result)
 here d = known _ _ (d .token .result) (d .token .ensures)
 
--- src/lib.rt:141:5
 loop-holds : tie.Need-loop-holds Inv-loop μ-loop
 loop-holds c = record { same = λ limit n. refl; ahead = omega arith }
 
--- src/lib.rt:143:13
 token-requires : tie.Need-token-requires Inv-loop μ-loop
 token-requires c κs = c .before .before .pre
 
--- src/lib.rt:145:13
 returns : tie.Need-returns Inv-loop μ-loop
 returns c =
     let d = c .before .before in
@@ -50,14 +44,12 @@ returns c =
       ahead = g .ahead;
     }
 
--- src/lib.rt:141:5
 loop-less : tie.Need-loop-less Inv-loop μ-loop
 loop-less c =
     let d = c .before .before .before in
     let r = known-mark (here d) 59 (c .before .if1 .left) (lit≤ tt) in
     omega (arith, r .ahead, r .wide, r .within)
 
--- src/lib.rt:141:5
 loop-again : tie.Need-loop-again Inv-loop μ-loop
 loop-again c =
     let d = c .before .before .before in

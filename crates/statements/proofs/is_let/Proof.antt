@@ -1,11 +1,8 @@
 -- `statements::is_let` meets its contract: the part of the text is the name's spelling. Assumes nothing.
-use Prim.Native.Nat.{ℕ, suc, _+_, _-_, _≤_, _<_}
-use mathlib.Core.Path.{_≡_, refl, _∙_, ap, sym, subst}
-use mathlib.Core.List.{List, []}
-use native.Mathlib.Omega.{arith}
+use Prim.Native.Nat.{ℕ}
+use mathlib.Core.Path.{_∙_, ap}
 use lib.ListN.{length}
 use denote.Ref.{now}
-use mathlib.Core.Bool.{Bool}
 use native.Mathlib.Nat.{add-sub-cancel-left}
 use lib.ListN.{take, drop}
 use Rattle.text.specs.Bytes.{bytes}
@@ -13,35 +10,25 @@ use Rattle.labels.specs.Word.{sameWord}
 use borrow.Author.Needs.{needs}
 use Rattle.statements.proofs.is_let.Statement.{statement}
 use Rattle.statements.proofs.is_let.Tie as tie
-use Rattle.statements.proofs.is_let.Reads as reads
-use Rattle.statements.proofs.is_let.Lts as lts
-use Rattle.labels.proofs.same_word.Reads as same-word-reads
 
--- src/lib.rt:67:15
 add-end : tie.Need-add-end
 add-end c = search needs
 
--- src/lib.rt:68:23
 sub-same-word : tie.Need-sub-same-word
 sub-same-word c = search needs
 
--- src/lib.rt:68:23
 part-same-word-start : tie.Need-part-same-word-start
 part-same-word-start c = search needs
 
--- src/lib.rt:68:23
 part-same-word-end : tie.Need-part-same-word-end
 part-same-word-end c = search needs
 
--- src/lib.rt:68:42
 slice-aggregate-same-word : tie.Need-slice-aggregate-same-word
 slice-aggregate-same-word c = search needs
 
--- src/lib.rt:68:5
 same-word-requires : tie.Need-same-word-requires
 same-word-requires c κs = search needs
 
--- src/lib.rt:62:1
 returns : tie.Need-returns
 returns c =
     let a = c .before .before .before .before .before .args in

@@ -1,15 +1,12 @@
 -- `statements::let_statement` meets its contract: the rest of a LET, and what its argument is taken for. Assumes nothing.
-use Prim.Native.Nat.{ℕ, suc, _+_, _-_, _≤_, _<_}
-use mathlib.Core.Path.{_≡_, refl, _∙_, ap, sym, subst}
-use mathlib.Core.List.{List, []}
-use native.Mathlib.Omega.{arith}
-use lib.ListN.{length}
+use mathlib.Core.Path.{_∙_, ap, sym, subst}
+use mathlib.Core.List.{List}
 use denote.Ref.{now}
 use Rattle.reading.specs.Statement.{Item}
 use Rattle.reading.specs.Answer.{Answer}
 use Rattle.reading.specs.Syntax.{letMade}
 use Rattle.forms.specs.Items.{nameIn}
-use Rattle.forms.specs.Forms.{argIn, statementIn}
+use Rattle.forms.specs.Forms.{statementIn}
 use Rattle.arguments.specs.Answers.{stepIn}
 use Rattle.checks.specs.Answers.{itemsAs}
 use Rattle.calls.specs.Answers.{letThen, LetFurther}
@@ -17,36 +14,25 @@ use Rattle.statements.specs.Answers.{statementThen, StatementFurther}
 use borrow.Author.Needs.{needs}
 use Rattle.statements.proofs.let_statement.Statement.{statement}
 use Rattle.statements.proofs.let_statement.Tie as tie
-use Rattle.statements.proofs.let_statement.Reads as reads
-use Rattle.statements.proofs.let_statement.Lts as lts
-use Rattle.calls.proofs.read_let.Reads as read-let-reads
-use Rattle.checks.proofs.items_of.Reads as items-of-reads
 
--- src/lib.rt:90:11
 read-let-requires : tie.Need-read-let-requires
 read-let-requires c κs = search needs
 
--- src/lib.rt:91:24
 enum-known-name : tie.Need-enum-known-name
 enum-known-name c = search needs
 
--- src/lib.rt:91:51
 items-of-requires : tie.Need-items-of-requires
 items-of-requires c κs = search needs
 
--- src/lib.rt:92:30
 enum-known-values : tie.Need-enum-known-values
 enum-known-values c = search needs
 
--- src/lib.rt:93:32
 enum-known-r : tie.Need-enum-known-r
 enum-known-r c = search needs
 
--- src/lib.rt:95:26
 enum-known-r-2 : tie.Need-enum-known-r-2
 enum-known-r-2 c = search needs
 
--- src/lib.rt:85:1
 returns : tie.Need-returns
 unfolding letThen LetFurther letMade itemsAs statementThen StatementFurther statementIn
 returns c =
@@ -64,7 +50,6 @@ returns c =
       (f .0, f .1),
     )
 
--- src/lib.rt:85:1
 returns-2 : tie.Need-returns-2
 unfolding letThen LetFurther letMade itemsAs statementThen StatementFurther
 returns-2 c =
@@ -82,7 +67,6 @@ returns-2 c =
       tt,
     )
 
--- src/lib.rt:85:1
 returns-3 : tie.Need-returns-3
 unfolding letThen statementThen StatementFurther
 returns-3 c =

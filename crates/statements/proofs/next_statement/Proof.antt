@@ -1,19 +1,16 @@
 -- `statements::next_statement` meets its contract: the first token that is no separator starts a statement, is the text's end, or is refused.
 -- Assumes nothing.
-use Prim.Native.Nat.{ℕ, suc, _+_, _-_, _≤_, _<_}
-use mathlib.Core.Path.{_≡_, refl, _∙_, ap, sym, subst}
-use mathlib.Core.List.{List, []}
+use Prim.Native.Nat.{ℕ, _+_}
+use mathlib.Core.Path.{_≡_, _∙_, ap, sym, subst}
 use native.Mathlib.Omega.{arith}
 use lib.ListN.{length}
 use denote.Ref.{now}
 use native.Mathlib.Numerals.{add-one}
-use lib.Dec.{lit≤}
-use Rattle.tokens.specs.Token.{Token, Tokens, word, _▸_}
+use Rattle.tokens.specs.Token.{word}
 use Rattle.reading.specs.Statement.{Name}
-use Rattle.reading.specs.Answer.{Answer, accepted, refused}
 use Rattle.reading.specs.Syntax.{opened}
 use Rattle.reading.specs.Read.{Where, between, prepend, readFrom}
-use Rattle.reading.specs.One.{One, oneStep, readOne}
+use Rattle.reading.specs.One.{One}
 use Rattle.forms.specs.Items.{tokensFrom, nameIn}
 use Rattle.forms.specs.Forms.{statementIn}
 use Rattle.tokens.proofs.Steps.{token}
@@ -25,13 +22,6 @@ use Rattle.statements.proofs.Whole.{refusedAs, oneThen, first-word, bet
 use borrow.Author.Needs.{needs}
 use Rattle.statements.proofs.next_statement.Statement.{statement}
 use Rattle.statements.proofs.next_statement.Tie as tie
-use Rattle.statements.proofs.next_statement.Reads as reads
-use Rattle.statements.proofs.next_statement.Lts as lts
-use Rattle.arguments.proofs.named.Reads as named-reads
-use Rattle.statements.proofs.behind.Reads as behind-reads
-use Rattle.statements.proofs.crowded.Reads as crowded-reads
-use Rattle.statements.proofs.first_token.Reads as first-token-reads
-use Rattle.statements.proofs.statement.Reads as statement-reads
 
 -- what the token's kind tells
 here : (d : tie.After-first-token) → Known (now (d .before .before .args .text)) (d .first-token .ensures .place) (d .first-token .result)
@@ -83,11 +73,9 @@ opened-here m =
     ∙ ap (λ (k : Name). oneThen (a .limit) (length s) (a .n) (stepIn (a .limit) s (opened (k .place) (word (k .spelling))) (t .next .at)))
     (same-name s t (m .named .ensures))
 
--- src/lib.rt:196:9
 first-token-requires : tie.Need-first-token-requires
 first-token-requires c κs = search needs
 
--- src/lib.rt:198:9
 returns : tie.Need-returns
 unfolding nextThen NextFurther
 returns c =
@@ -96,11 +84,9 @@ returns c =
     let f = d .first-token .ensures in
     (f .same (a .limit) (a .n) ∙ at-finish (a .limit) _ (a .n) _ (d .first-token .result) (known-end (here d) (c .if1 .taken)), tt)
 
--- src/lib.rt:201:34
 crowded-requires : tie.Need-crowded-requires
 crowded-requires c κs = search needs
 
--- src/lib.rt:201:9
 returns-2 : tie.Need-returns-2
 unfolding nextThen NextFurther
 returns-2 c =
@@ -113,11 +99,9 @@ returns-2 c =
       tt,
     )
 
--- src/lib.rt:204:34
 crowded-requires-2 : tie.Need-crowded-requires-2
 crowded-requires-2 c κs = search needs
 
--- src/lib.rt:204:9
 returns-3 : tie.Need-returns-3
 unfolding nextThen NextFurther
 returns-3 c =
@@ -131,24 +115,20 @@ returns-3 c =
       tt,
     )
 
--- src/lib.rt:207:9
 named-requires : tie.Need-named-requires
 named-requires c κs =
     let r = word-at c in
     omega (arith, r .wide)
 
--- src/lib.rt:208:11
 statement-requires : tie.Need-statement-requires
 statement-requires c κs =
     let d = c .before .before .before .before .before .before .before in
     let p = d .before .before .pre in
     (p .0, p .1, p .2, in-text _ (d .first-token .result) (c .named .ensures) (word-at (c .before)))
 
--- src/lib.rt:209:34
 enum-known-form : tie.Need-enum-known-form
 enum-known-form c = search needs
 
--- src/lib.rt:209:80
 add-behind : tie.Need-add-behind
 unfolding StatementFurther
 add-behind c =
@@ -156,23 +136,18 @@ add-behind c =
     let d = w .before .before .before .before .before .before .before .before in
     omega (arith, c .before .before .before .before .before .before .before .before .if2 .left)
 
--- src/lib.rt:209:52
 behind-requires : tie.Need-behind-requires
 behind-requires c κs = c .before .before .before .before .before .before .before .before .before .before .before .before .before .pre .0
 
--- src/lib.rt:210:28
 enum-told : tie.Need-enum-told
 enum-told c = search needs
 
--- src/lib.rt:211:28
 enum-known-r : tie.Need-enum-known-r
 enum-known-r c = search needs
 
--- src/lib.rt:213:32
 enum-known-r-2 : tie.Need-enum-known-r-2
 enum-known-r-2 c = search needs
 
--- src/lib.rt:191:1
 returns-4 : tie.Need-returns-4
 unfolding nextThen NextFurther statementThen StatementFurther EndedThen
 returns-4 c =
@@ -198,7 +173,6 @@ returns-4 c =
       (omega (arith, f .ahead, r .ahead, r .wide, g .0), g .1),
     )
 
--- src/lib.rt:191:1
 returns-5 : tie.Need-returns-5
 unfolding nextThen NextFurther statementThen EndedThen
 returns-5 c =
@@ -220,7 +194,6 @@ returns-5 c =
       tt,
     )
 
--- src/lib.rt:191:1
 returns-6 : tie.Need-returns-6
 unfolding nextThen NextFurther statementThen
 returns-6 c =

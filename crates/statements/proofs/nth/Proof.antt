@@ -1,25 +1,21 @@
 -- `statements::nth` meets its contract. The invariant: what is left to read are the statements from this one on. Assumes nothing.
-use Prim.Native.Nat.{ℕ, suc, _+_, _-_, _≤_, _<_}
-use mathlib.Core.Path.{_≡_, refl, _∙_, ap, sym, subst}
+use Prim.Native.Nat.{ℕ, suc, _-_, _≤_}
+use mathlib.Core.Path.{_≡_, _∙_, ap, sym, subst}
 use mathlib.Core.List.{List, []}
 use native.Mathlib.Omega.{arith}
 use lib.ListN.{length}
 use denote.Ref.{now}
 use native.Mathlib.Numerals.{add-one}
 use borrow.Author.Needs.{needs}
-use mathlib.Core.Option.{Option}
 use lib.ListN.{drop, getElem?}
 use Rattle.reading.specs.Statement.{Statement}
-use Rattle.reading.specs.Answer.{Answer, accepted, refused}
-use Rattle.reading.specs.Read.{between, prepend}
+use Rattle.reading.specs.Answer.{accepted}
+use Rattle.reading.specs.Read.{between}
 use Rattle.forms.specs.Forms.{statementIn}
-use Rattle.statements.specs.Answers.{readAt, nextThen, NextFurther, chosen, nthOf, statementAs}
+use Rattle.statements.specs.Answers.{readAt, nextThen, NextFurther, chosen, statementAs}
 use Rattle.statements.proofs.Indexes.{at-index, one-fewer, past-last, in-front}
 use Rattle.statements.proofs.nth.Statement.{statement}
 use Rattle.statements.proofs.nth.Tie as tie
-use Rattle.statements.proofs.nth.Reads as reads
-use Rattle.statements.proofs.nth.Lts as lts
-use Rattle.statements.proofs.next_statement.Reads as next-statement-reads
 
 record Gone (s : List ℕ) (limit index n cur : ℕ) : Type 0 where
   left : (ss : List Statement) → readAt limit s 0 between 0 ≡ accepted ss → readAt limit s n between cur ≡ accepted (drop n ss)
@@ -32,21 +28,17 @@ Inv-loop text classes labels keys index limit n₀ cur₀ n cur = Gone text limi
 abbrev μ-loop : tie.MeasureT-loop
 μ-loop text classes labels keys index limit n₀ cur₀ n cur = length text - cur
 
--- src/lib.rt:300:5
 loop-holds : tie.Need-loop-holds Inv-loop μ-loop
 loop-holds c = record { left = λ ss e. e; few = omega arith; early = omega arith }
 
--- src/lib.rt:301:15
 next-statement-requires : tie.Need-next-statement-requires Inv-loop μ-loop
 next-statement-requires c κs =
     let p = c .before .before .pre in
     (p .0, p .1, p .2, c .loop .inv .few)
 
--- src/lib.rt:302:33
 enum-known-form : tie.Need-enum-known-form Inv-loop μ-loop
 enum-known-form c = search needs
 
--- src/lib.rt:304:21
 returns : tie.Need-returns Inv-loop μ-loop
 unfolding nextThen statementAs
 returns c =
@@ -61,7 +53,6 @@ returns c =
     let f = in-front (statementIn s (x .0 .0)) (readAt (a .limit) s (suc n) between (x .0 .1 .0 .at)) (drop n ss) (sym (ap (nextThen (a .limit) s n) (x .1)) ∙ sym (d .next-statement .ensures .0) ∙ g .left ss e) in
     sym (ap (chosen (a .index)) (ap (getElem? ss) (sym (c .if1 .taken)) ∙ at-index n ss (statementIn s (x .0 .0)) (f .0) (f .2)))
 
--- src/lib.rt:307:17
 add-n : tie.Need-add-n Inv-loop μ-loop
 unfolding NextFurther
 add-n c =
@@ -75,7 +66,6 @@ add-n c =
     let f = subst (NextFurther s (l .loop .cur)) (x .1) (d .next-statement .ensures .1) in
     omega (arith, f .0, f .1, g .few)
 
--- src/lib.rt:300:5
 loop-less : tie.Need-loop-less Inv-loop μ-loop
 unfolding NextFurther
 loop-less c =
@@ -89,7 +79,6 @@ loop-less c =
     let f = subst (NextFurther s (l .loop .cur)) (x .1) (d .next-statement .ensures .1) in
     omega (arith, f .0, f .1)
 
--- src/lib.rt:300:5
 loop-again : tie.Need-loop-again Inv-loop μ-loop
 unfolding nextThen NextFurther
 loop-again c =
@@ -111,11 +100,9 @@ loop-again c =
       early = omega (arith, g .early, c .if1 .left);
     }
 
--- src/lib.rt:309:58
 enum-told : tie.Need-enum-told Inv-loop μ-loop
 enum-told c = search needs
 
--- src/lib.rt:309:30
 returns-2 : tie.Need-returns-2 Inv-loop μ-loop
 unfolding nextThen statementAs
 returns-2 c =
@@ -129,11 +116,9 @@ returns-2 c =
     let z : drop n ss ≡ [] = cc (sym (g .left ss e) ∙ d .next-statement .ensures .0 ∙ ap (nextThen (a .limit) s n) (c .enum-told .given .1)) in
     sym (ap (chosen (a .index)) (past-last n (a .index) ss z (g .early)))
 
--- src/lib.rt:313:31
 enum-known-r : tie.Need-enum-known-r Inv-loop μ-loop
 enum-known-r c = search needs
 
--- src/lib.rt:313:37
 returns-3 : tie.Need-returns-3 Inv-loop μ-loop
 unfolding nextThen statementAs
 returns-3 c =

@@ -1,9 +1,5 @@
 -- `statements::statement_under` meets its contract: what Count refuses is refused, and else the statement is looked for. Assumes nothing.
-use Prim.Native.Nat.{ℕ, suc, _+_, _-_, _≤_, _<_}
-use mathlib.Core.Path.{_≡_, refl, _∙_, ap, sym, subst}
-use mathlib.Core.List.{List, []}
-use native.Mathlib.Omega.{arith}
-use lib.ListN.{length}
+use mathlib.Core.Path.{refl, _∙_, ap, sym}
 use denote.Ref.{now}
 use Rattle.tokens.specs.Class.{classOf, classTable}
 use Rattle.labels.specs.Label.{labelsOf, keywords}
@@ -15,29 +11,20 @@ use Rattle.statements.proofs.Whole.{counted-accepted, counted-refused}
 use borrow.Author.Needs.{needs}
 use Rattle.statements.proofs.statement_under.Statement.{statement}
 use Rattle.statements.proofs.statement_under.Tie as tie
-use Rattle.statements.proofs.statement_under.Reads as reads
-use Rattle.statements.proofs.statement_under.Lts as lts
-use Rattle.statements.proofs.count_under.Reads as count-under-reads
-use Rattle.statements.proofs.nth.Reads as nth-reads
 
--- src/lib.rt:322:11
 count-under-requires : tie.Need-count-under-requires
 count-under-requires c κs = search needs
 
--- src/lib.rt:323:28
 enum-known-r : tie.Need-enum-known-r
 enum-known-r c = search needs
 
--- /work/main/target/rlib/tokens.rlib/interface/lang/src/lib.rt:1:36
 enum-told : tie.Need-enum-told
 enum-told c = search needs
 
--- src/lib.rt:328:13
 nth-requires : tie.Need-nth-requires
 unfolding classTable classOf labelTable labelsOf keywordTable keywords
 nth-requires c κs = (refl, refl, refl)
 
--- src/lib.rt:319:1
 returns : tie.Need-returns
 unfolding countAs statementAs
 returns c =
@@ -48,7 +35,6 @@ returns c =
     (ap (nthOf (a .index))
     (counted-refused 0 (r .0 .0 .number) (r .0 .0 .place) (readText (a .limit) (now (a .text))) (sym (d .count-under .ensures) ∙ ap countAs (r .1))))
 
--- src/lib.rt:319:1
 returns-2 : tie.Need-returns-2
 unfolding countAs
 returns-2 c =

@@ -10,22 +10,16 @@ use denote.Ref.{now}
 use Rattle.tokens.proofs.Classes.{table-entry}
 use Rattle.tokens.proofs.class_at.Statement.{statement}
 use Rattle.tokens.proofs.class_at.Tie as tie
-use Rattle.tokens.proofs.class_at.Reads as reads
-use Rattle.tokens.proofs.class_at.Lts as lts
 
--- src/lib.rt:56:13
 shared-slice-read-result : tie.Need-shared-slice-read-result
 shared-slice-read-result c = search needs
 
--- src/lib.rt:56:13
 cast-result : tie.Need-cast-result
 cast-result c = omega (arith, c .shared-slice-known .given (c .before .args .at))
 
--- src/lib.rt:56:5
 element-copy-out-result : tie.Need-element-copy-out-result
 element-copy-out-result c = omega (arith, c .shared-slice-known .given (c .before .args .at))
 
--- src/lib.rt:52:1
 returns : tie.Need-returns
 returns c =
     let a = c .before .before .args in

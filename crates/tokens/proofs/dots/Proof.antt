@@ -8,15 +8,10 @@ use Rattle.tokens.proofs.Steps.{at-last-point, at-two-points, at-one-po
 use borrow.Author.Needs.{needs}
 use Rattle.tokens.proofs.dots.Statement.{statement}
 use Rattle.tokens.proofs.dots.Tie as tie
-use Rattle.tokens.proofs.dots.Reads as reads
-use Rattle.tokens.proofs.dots.Lts as lts
-use Rattle.tokens.proofs.class_at.Reads as class-at-reads
 
--- src/lib.rt:131:8
 sub-if1 : tie.Need-sub-if1
 sub-if1 c = search needs
 
--- src/lib.rt:132:9
 returns : tie.Need-returns
 unfolding first
 returns c =
@@ -24,19 +19,15 @@ returns c =
     let p = c .before .before .pre .1 in
     sym (ap first (at-last-point (now (a .text)) (a .start) (p .inside) (p .is-point) (omega (arith, p .inside, c .if1 .taken))))
 
--- src/lib.rt:134:32
 add-class-at : tie.Need-add-class-at
 add-class-at c = search needs
 
--- src/lib.rt:134:8
 class-at-requires : tie.Need-class-at-requires
 class-at-requires c κs = search needs
 
--- src/lib.rt:135:68
 add-t8 : tie.Need-add-t8
 add-t8 c = search needs
 
--- src/lib.rt:135:9
 returns-2 : tie.Need-returns-2
 unfolding first lexedAs
 returns-2 c =
@@ -47,7 +38,6 @@ returns-2 c =
     (at-two-points (now (a .text)) (a .start) (p .inside) (p .is-point) (omega (arith, p .inside, c .before .before .if1 .left))
     (sym (c .before .class-at .ensures) ∙ c .if2 .taken)))
 
--- src/lib.rt:127:1
 returns-3 : tie.Need-returns-3
 unfolding first
 returns-3 c =

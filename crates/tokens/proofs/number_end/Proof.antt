@@ -13,10 +13,6 @@ use Rattle.tokens.proofs.Numbers.{number-end, fraction-short, fraction-
 use borrow.Author.Needs.{needs}
 use Rattle.tokens.proofs.number_end.Statement.{statement}
 use Rattle.tokens.proofs.number_end.Tie as tie
-use Rattle.tokens.proofs.number_end.Reads as reads
-use Rattle.tokens.proofs.number_end.Lts as lts
-use Rattle.tokens.proofs.class_at.Reads as class-at-reads
-use Rattle.tokens.proofs.run_end.Reads as run-end-reads
 
 -- the number ends where its digits do, and the fraction after them
 whole :
@@ -34,7 +30,6 @@ plain :
     → c .run-end .result ≡ c .before .before .args .at + numberRest (drop (c .before .before .args .at) (now (c .before .before .args .text)))
 plain c e = sym (whole c ∙ ap (λ (n : ℕ). c .run-end .result + n) e ∙ add-zero (c .run-end .result))
 
--- src/lib.rt:83:9
 run-end-requires : tie.Need-run-end-requires
 run-end-requires c κs = search needs
 
@@ -48,30 +43,24 @@ sub-if1 c =
       simp length-drop at (span-most (classBetween 8 8) (drop (a .at) (now (a .text)))),
     )
 
--- src/lib.rt:85:9
 returns : tie.Need-returns
 returns c = plain (c .before) (fraction-short (now (c .before .before .before .args .text)) (c .before .run-end .result) (omega arith))
 
--- src/lib.rt:87:8
 class-at-requires : tie.Need-class-at-requires
 class-at-requires c κs = search needs
 
--- src/lib.rt:88:9
 returns-2 : tie.Need-returns-2
 returns-2 c =
     plain (c .before .before .before)
     (fraction-no-point (now (c .before .before .before .before .before .args .text)) (c .before .before .before .run-end .result) (omega arith)
     (λ e. c .if2 .taken (c .before .class-at .ensures ∙ e)))
 
--- src/lib.rt:90:32
 add-class-at : tie.Need-add-class-at
 add-class-at c = search needs
 
--- src/lib.rt:90:8
 class-at-requires-2 : tie.Need-class-at-requires-2
 class-at-requires-2 c κs = search needs
 
--- src/lib.rt:91:9
 returns-3 : tie.Need-returns-3
 returns-3 c =
     let d = c .before .before .before .before .before in
@@ -79,15 +68,12 @@ returns-3 c =
     (fraction-no-digit (now (d .before .before .args .text)) (d .run-end .result) (omega arith)
     (λ e. c .if3 .taken (c .before .class-at2 .ensures ∙ e)))
 
--- src/lib.rt:93:28
 add-run-end : tie.Need-add-run-end
 add-run-end c = search needs
 
--- src/lib.rt:93:5
 run-end-requires-2 : tie.Need-run-end-requires-2
 run-end-requires-2 c κs = search needs
 
--- src/lib.rt:79:1
 returns-4 : tie.Need-returns-4
 returns-4 c =
     let d = c .before .before .before .before .before .before in

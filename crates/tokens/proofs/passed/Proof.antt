@@ -1,6 +1,6 @@
 -- `tokens::passed` meets its contract: the tokens at a blank are those after it, and the tokens at a comment those at its newline.
 -- Assumes nothing.
-use Prim.Native.Nat.{ℕ, _+_, _≤_}
+use Prim.Native.Nat.{ℕ, _+_}
 use mathlib.Core.Path.{_≡_, _∙_, ap, sym}
 use native.Mathlib.Omega.{arith}
 use lib.ListN.{drop, length-drop}
@@ -13,15 +13,10 @@ use Rattle.tokens.proofs.Steps.{past-blank, past-comment}
 use borrow.Author.Needs.{needs}
 use Rattle.tokens.proofs.passed.Statement.{statement}
 use Rattle.tokens.proofs.passed.Tie as tie
-use Rattle.tokens.proofs.passed.Reads as reads
-use Rattle.tokens.proofs.passed.Lts as lts
-use Rattle.tokens.proofs.run_end.Reads as run-end-reads
 
--- src/lib.rt:102:16
 add-result : tie.Need-add-result
 add-result c = search needs
 
--- src/lib.rt:102:9
 returns : tie.Need-returns
 returns c =
     let a = c .before .before .args in
@@ -32,15 +27,12 @@ returns c =
       within = omega (arith, p .inside);
     }
 
--- src/lib.rt:104:28
 add-run-end : tie.Need-add-run-end
 add-run-end c = search needs
 
--- src/lib.rt:104:5
 run-end-requires : tie.Need-run-end-requires
 run-end-requires c κs = search needs
 
--- src/lib.rt:97:1
 returns-2 : tie.Need-returns-2
 returns-2 c =
     let a = c .before .before .before .args in

@@ -3,7 +3,6 @@
 use Prim.Native.Nat.{_≤_, _+_, _-_}
 use mathlib.Core.Path.{_≡_, refl, _∙_, sym}
 use mathlib.Core.Bool.{true, false, and-false}
-use Prim.Native.Nat.{ℕ}
 use denote.Ref.{now}
 use native.Mathlib.Omega.{arith}
 use borrow.Author.Tests.{le-leb, lt-leb}
@@ -13,8 +12,6 @@ use Rattle.tokens.specs.Class.{classBetween}
 use Rattle.tokens.proofs.Runs.{span-stops, span-goes-on, span-ends}
 use Rattle.tokens.proofs.run_end.Statement.{statement}
 use Rattle.tokens.proofs.run_end.Tie as tie
-use Rattle.tokens.proofs.run_end.Reads as reads
-use Rattle.tokens.proofs.run_end.Lts as lts
 
 abbrev Inv-loop : tie.InvT-loop
 Inv-loop text classes at lo hi i₀ i =
@@ -23,15 +20,12 @@ Inv-loop text classes at lo hi i₀ i =
 abbrev μ-loop : tie.MeasureT-loop
 μ-loop text classes at lo hi i₀ i = length text - i
 
--- src/lib.rt:66:5
 loop-holds : tie.Need-loop-holds Inv-loop μ-loop
 loop-holds c = (omega arith, refl)
 
--- src/lib.rt:67:21
 class-at-requires : tie.Need-class-at-requires Inv-loop μ-loop
 class-at-requires c κs = (c .before .before .before .pre .0, omega arith)
 
--- src/lib.rt:69:13
 returns : tie.Need-returns Inv-loop μ-loop
 returns c =
     let a = c .before .before .before .before .before .args in
@@ -40,7 +34,6 @@ returns c =
     simp (← c .before .class-at .ensures, lt-leb _ _ (c .if1 .taken)) in
     sym (span-stops (classBetween (a .lo) (a .hi)) (now (a .text)) i (omega arith) below) ∙ c .before .before .before .loop .inv .1
 
--- src/lib.rt:72:13
 returns-2 : tie.Need-returns-2 Inv-loop μ-loop
 returns-2 c =
     let a = c .before .before .before .before .before .before .args in
@@ -49,15 +42,12 @@ returns-2 c =
     simp (← c .before .before .class-at .ensures, lt-leb _ _ (c .if2 .taken), and-false) in
     sym (span-stops (classBetween (a .lo) (a .hi)) (now (a .text)) i (omega arith) above) ∙ c .before .before .before .before .loop .inv .1
 
--- src/lib.rt:74:9
 add-i : tie.Need-add-i Inv-loop μ-loop
 add-i c = omega arith
 
--- src/lib.rt:66:5
 loop-less : tie.Need-loop-less Inv-loop μ-loop
 loop-less c = omega arith
 
--- src/lib.rt:66:5
 loop-again : tie.Need-loop-again Inv-loop μ-loop
 loop-again c =
     let a = c .before .before .before .before .before .before .args in
@@ -68,7 +58,6 @@ loop-again c =
       sym (span-goes-on (classBetween (a .lo) (a .hi)) (now (a .text)) i (omega arith) inside) ∙ c .before .before .before .before .loop .inv .1,
     )
 
--- src/lib.rt:61:1
 returns-3 : tie.Need-returns-3 Inv-loop μ-loop
 returns-3 c =
     let a = c .before .before .before .args in

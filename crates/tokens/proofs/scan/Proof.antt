@@ -13,9 +13,6 @@ use Rattle.tokens.proofs.Steps.{from}
 use Rattle.tokens.proofs.Views.{Tells, told}
 use Rattle.tokens.proofs.scan.Statement.{statement}
 use Rattle.tokens.proofs.scan.Tie as tie
-use Rattle.tokens.proofs.scan.Reads as reads
-use Rattle.tokens.proofs.scan.Lts as lts
-use Rattle.tokens.proofs.Cursor.next.Reads as next-reads
 
 abbrev Inv-loop : tie.InvT-loop
 Inv-loop text classes at₀ at = scanned (from text at) ≡ scanned (tokens text)
@@ -30,26 +27,21 @@ read :
     → Tells (now (d .before .before .before .args .text)) (d .before .loop .at) l
 read d l e = told (now (d .before .before .before .args .text)) (d .before .loop .at) l (sym e ∙ d .next .ensures)
 
--- src/lib.rt:183:5
 loop-holds : tie.Need-loop-holds Inv-loop μ-loop
 loop-holds c = refl
 
--- src/lib.rt:185:15
 next-requires : tie.Need-next-requires Inv-loop μ-loop
 next-requires c κs = c .before .before .pre
 
--- src/lib.rt:186:37
 enum-known-next : tie.Need-enum-known-next Inv-loop μ-loop
 enum-known-next c = search needs
 
--- src/lib.rt:183:5
 loop-less : tie.Need-loop-less Inv-loop μ-loop
 loop-less c =
     let x = c .before .next2 .given in
     let r = read (c .before .before .before) (Word (x .0 .0) (x .0 .1 .0)) (x .1) in
     omega (arith, r .ahead, r .wide, r .within)
 
--- src/lib.rt:183:5
 loop-again : tie.Need-loop-again Inv-loop μ-loop
 unfolding scanned
 loop-again c =
@@ -57,18 +49,15 @@ loop-again c =
     let r = read (c .before .before .before) (Word (x .0 .0) (x .0 .1 .0)) (x .1) in
     sym (ap scanned (r .tokens)) ∙ c .before .before .before .before .loop .inv
 
--- src/lib.rt:187:39
 enum-known-next-2 : tie.Need-enum-known-next-2 Inv-loop μ-loop
 enum-known-next-2 c = search needs
 
--- src/lib.rt:183:5
 loop-less-2 : tie.Need-loop-less-2 Inv-loop μ-loop
 loop-less-2 c =
     let x = c .before .next3 .given in
     let r = read (c .before .before .before) (Number (x .0 .0) (x .0 .1 .0)) (x .1) in
     omega (arith, r .ahead, r .wide, r .within)
 
--- src/lib.rt:183:5
 loop-again-2 : tie.Need-loop-again-2 Inv-loop μ-loop
 unfolding scanned
 loop-again-2 c =
@@ -76,18 +65,15 @@ loop-again-2 c =
     let r = read (c .before .before .before) (Number (x .0 .0) (x .0 .1 .0)) (x .1) in
     sym (ap scanned (r .tokens)) ∙ c .before .before .before .before .loop .inv
 
--- src/lib.rt:188:46
 enum-known-next-3 : tie.Need-enum-known-next-3 Inv-loop μ-loop
 enum-known-next-3 c = search needs
 
--- src/lib.rt:183:5
 loop-less-3 : tie.Need-loop-less-3 Inv-loop μ-loop
 loop-less-3 c =
     let x = c .before .next4 .given in
     let r = read (c .before .before .before) (Mark (x .0 .0) (x .0 .1 .0) (x .0 .1 .1 .0)) (x .1) .0 in
     omega (arith, r .ahead, r .wide, r .within)
 
--- src/lib.rt:183:5
 loop-again-3 : tie.Need-loop-again-3 Inv-loop μ-loop
 unfolding scanned
 loop-again-3 c =
@@ -95,11 +81,9 @@ loop-again-3 c =
     let r = read (c .before .before .before) (Mark (x .0 .0) (x .0 .1 .0) (x .0 .1 .1 .0)) (x .1) .0 in
     sym (ap scanned (r .tokens)) ∙ c .before .before .before .before .loop .inv
 
--- src/lib.rt:189:26
 enum-known-start : tie.Need-enum-known-start Inv-loop μ-loop
 enum-known-start c = search needs
 
--- src/lib.rt:189:37
 returns : tie.Need-returns Inv-loop μ-loop
 unfolding scanned
 returns c =
@@ -107,11 +91,9 @@ returns c =
     let r = read (c .before .before .before) (Bad (x .0 .0)) (x .1) in
     sym (ap scanned (r .0)) ∙ c .before .before .before .before .loop .inv
 
--- src/lib.rt:190:27
 enum-told : tie.Need-enum-told Inv-loop μ-loop
 enum-told c = search needs
 
--- src/lib.rt:190:27
 returns-2 : tie.Need-returns-2 Inv-loop μ-loop
 unfolding scanned
 returns-2 c =

@@ -14,13 +14,6 @@ use Rattle.tokens.proofs.Firsts.{first-end, first-separator, first-mark
 use borrow.Author.Needs.{needs}
 use Rattle.tokens.proofs.Cursor.next.Statement.{statement}
 use Rattle.tokens.proofs.Cursor.next.Tie as tie
-use Rattle.tokens.proofs.Cursor.next.Reads as reads
-use Rattle.tokens.proofs.Cursor.next.Lts as lts
-use Rattle.tokens.proofs.class_at.Reads as class-at-reads
-use Rattle.tokens.proofs.dots.Reads as dots-reads
-use Rattle.tokens.proofs.number_end.Reads as number-end-reads
-use Rattle.tokens.proofs.run_end.Reads as run-end-reads
-use Rattle.tokens.proofs.skip.Reads as skip-reads
 
 -- at the class of the first byte that is not skipped: the text, the byte's offset, and that it lies in the text
 text : tie.After-class-at → List ℕ
@@ -41,53 +34,42 @@ told :
 unfolding start text
 told d e = e ∙ ap first (sym (d .before .before .before .skip .ensures .same))
 
--- src/lib.rt:153:13
 skip-requires : tie.Need-skip-requires
 skip-requires c κs = search needs
 
--- src/lib.rt:155:13
 returns : tie.Need-returns
 returns c =
     let a = c .before .before .before .args in
     first-end (now (a .text)) (c .before .skip .result) (c .if1 .taken) ∙ ap first (sym (c .before .skip .ensures .same))
 
--- src/lib.rt:157:20
 shared-slice-read-byte : tie.Need-shared-slice-read-byte
 shared-slice-read-byte c = search needs
 
--- src/lib.rt:158:13
 class-at-requires : tie.Need-class-at-requires
 class-at-requires c κs = search needs
 
--- src/lib.rt:159:21
 add-after : tie.Need-add-after
 add-after c = search needs
 
--- src/lib.rt:163:18
 dots-requires : tie.Need-dots-requires
 dots-requires c κs = search needs
 
--- src/lib.rt:165:21
 number-end-requires : tie.Need-number-end-requires
 number-end-requires c κs = search needs
 
--- src/lib.rt:169:21
 run-end-requires : tie.Need-run-end-requires
 run-end-requires c κs = search needs
 
--- src/lib.rt:149:5
 returns-2 : tie.Need-returns-2
 unfolding text start
 returns-2 c =
     told (c .before)
     (first-mark (text (c .before)) (start (c .before)) (inside (c .before)) (sym (c .before .class-at .ensures) ∙ c .match .keys1))
 
--- src/lib.rt:149:5
 returns-3 : tie.Need-returns-3
 unfolding text start
 returns-3 c = told (c .before .before) (c .dots .ensures)
 
--- src/lib.rt:149:5
 returns-4 : tie.Need-returns-4
 unfolding text start
 returns-4 c =
@@ -96,7 +78,6 @@ returns-4 c =
     (first-number (text d) (start d) (inside d) (c .number-end .result) (c .number-end .ensures)
     (sym (d .class-at .ensures) ∙ c .before .match .keys3))
 
--- src/lib.rt:149:5
 returns-5 : tie.Need-returns-5
 unfolding text start
 returns-5 c =
@@ -105,14 +86,12 @@ returns-5 c =
     (first-word (text d) (start d) (inside d) (c .run-end .result) (c .run-end .ensures)
     (sym (d .class-at .ensures) ∙ c .before .match .keys4))
 
--- src/lib.rt:149:5
 returns-6 : tie.Need-returns-6
 unfolding text start
 returns-6 c =
     let d = c .before .before in
     told d (first-separator (text d) (start d) (inside d) (omega (arith, d .class-at .ensures, c .if2 .taken)))
 
--- src/lib.rt:149:5
 returns-7 : tie.Need-returns-7
 unfolding text start
 returns-7 c =

@@ -8,9 +8,6 @@ use Rattle.tokens.specs.Next.{byKind, tokenAt}
 use borrow.Author.Needs.{needs}
 use Rattle.tokens.proofs.Cursor.token.Statement.{statement}
 use Rattle.tokens.proofs.Cursor.token.Tie as tie
-use Rattle.tokens.proofs.Cursor.token.Reads as reads
-use Rattle.tokens.proofs.Cursor.token.Lts as lts
-use Rattle.tokens.proofs.Cursor.next.Reads as next-reads
 
 -- an answer by its kind is the token's
 same :
@@ -19,51 +16,40 @@ same :
     → byKind (length (now (d .before .before .args .text))) l ≡ tokenAt (now (d .before .before .args .text)) (d .before .before .args .self .at)
 same d l e = ap (byKind (length (now (d .before .before .args .text)))) (sym e ∙ d .next .ensures)
 
--- src/lib.rt:221:15
 next-requires : tie.Need-next-requires
 next-requires c κs = search needs
 
--- src/lib.rt:222:27
 enum-known-start : tie.Need-enum-known-start
 enum-known-start c = search needs
 
--- src/lib.rt:227:29
 enum-known-start-2 : tie.Need-enum-known-start-2
 enum-known-start-2 c = search needs
 
--- src/lib.rt:232:27
 enum-known-mark : tie.Need-enum-known-mark
 enum-known-mark c = search needs
 
--- src/lib.rt:237:26
 enum-known-start-3 : tie.Need-enum-known-start-3
 enum-known-start-3 c = search needs
 
--- src/lib.rt:244:24
 enum-told : tie.Need-enum-told
 enum-told c = search needs
 
--- src/lib.rt:217:5
 returns : tie.Need-returns
 unfolding byKind
 returns c = let x = c .before .start .given in same (c .before .before .before) (Word (x .0 .0) (x .0 .1 .0)) (x .1)
 
--- src/lib.rt:217:5
 returns-2 : tie.Need-returns-2
 unfolding byKind
 returns-2 c = let x = c .before .start2 .given in same (c .before .before .before) (Number (x .0 .0) (x .0 .1 .0)) (x .1)
 
--- src/lib.rt:217:5
 returns-3 : tie.Need-returns-3
 unfolding byKind
 returns-3 c = let x = c .before .mark .given in same (c .before .before .before) (Mark (x .0 .0) (x .0 .1 .0) (x .0 .1 .1 .0)) (x .1)
 
--- src/lib.rt:217:5
 returns-4 : tie.Need-returns-4
 unfolding byKind
 returns-4 c = let x = c .before .start3 .given in same (c .before .before .before) (Bad (x .0 .0)) (x .1)
 
--- src/lib.rt:217:5
 returns-5 : tie.Need-returns-5
 unfolding byKind
 returns-5 c = same (c .before .before) End (c .enum-told .given .1)
