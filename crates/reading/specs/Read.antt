@@ -36,7 +36,7 @@ onward (made s) f g = prepend s g
 onward (stop k p) f g = refused k p
 
 -- The statements of the tokens of a text of so many bytes, under a limit for counts, after so many statements. "Any token but a separator
--- after 256 statements" is refused by 11, "never 3".
+-- after 256 statements" is refused by 11, "never 3". (A first token makes no whole statement, so what stands for that case is never read.)
 unfoldable pub readFrom : ℕ → ℕ → ℕ → Where → Tokens → Answer (List Statement)
 readFrom limit size n between finish = accepted []
 readFrom limit size n ended finish = accepted []
