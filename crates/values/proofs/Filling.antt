@@ -1,0 +1,103 @@
+-- Filling an array with a list's entries, one after the other.
+-- Assumes nothing.
+use mathlib.Core.Path.{_≡_, refl, _∙_, ap, sym}
+use mathlib.Core.Bool.{Bool, true, false, _&&_, true≢false}
+use mathlib.Core.List.{List, [], _∷_, _++_, map}
+use Prim.Native.Nat.{ℕ, zero, suc, _+_, _≤_, _<_}
+use native.Mathlib.Nat.{le-of-suc-le-suc, not-suc-le-zero}
+use native.Mathlib.Numerals.{add-one}
+use native.Mathlib.Omega.{arith}
+use lib.ListN.{length, take, drop, set, length-drop, length-set}
+use lib.Seq.{take-suc-set, length-take-le}
+use Rattle.tokens.specs.Token.{Tokens, finish, bad, _▸_}
+use Rattle.reading.specs.Statement.{Item}
+use Rattle.forms.specs.declared.Name.{Name}
+use Rattle.forms.specs.declared.Items.{Items}
+use Rattle.forms.specs.Items.{tokensFrom, nameIn, rest, entries, afterEntries, isEntry, listed}
+use Rattle.forms.specs.Fits.{InText, Listed}
+use Rattle.arguments.proofs.Entries.{entries-more, after-more}
+use Rattle.checks.specs.declared.Item as checked
+use Rattle.checks.specs.Answers.{kindOf, ItemHere}
+use Rattle.values.specs.Lists.{pairOf}
+
+-- an entry that was read again, as the definition has it
+abbrev pub entryAs : List ℕ → checked.Item → Item
+entryAs s r = record { kind = kindOf (r .number); name = nameIn s (r .name) }
+
+both : (a b : Bool) → (a && b) ≡ true → (a ≡ true) × (b ≡ true)
+both true b e = (refl, e)
+both false b e = absurd (true≢false (sym e))
+
+-- the first so many of a list's entries are a list, and so is the next one
+pub first-listed : (i n : ℕ) (ts : Tokens) → listed n ts ≡ true → i ≤ n → listed i ts ≡ true
+unfolding listed
+first-listed zero n ts e h = refl
+first-listed (suc i) zero ts e h = absurd (not-suc-le-zero h)
+first-listed (suc i) (suc n) finish e h = e
+first-listed (suc i) (suc n) (bad o) e h = e
+first-listed (suc i) (suc n) (t ▸ ts) e h =
+    let p = both (isEntry (t .shape)) (listed n (rest ts)) e in
+    simp (p .0) (first-listed i n (rest ts) (p .1) (le-of-suc-le-suc h))
+
+pub next-listed : (i n : ℕ) (ts : Tokens) → listed n ts ≡ true → i < n → listed 1 (afterEntries i ts) ≡ true
+unfolding listed afterEntries
+next-listed zero zero ts e h = absurd (not-suc-le-zero h)
+next-listed zero (suc n) finish e h = e
+next-listed zero (suc n) (bad o) e h = e
+next-listed zero (suc n) (t ▸ ts) e h = simp (both (isEntry (t .shape)) (listed n (rest ts)) e .0)
+next-listed (suc i) zero ts e h = absurd (not-suc-le-zero h)
+next-listed (suc i) (suc n) finish e h = absurd (true≢false (sym e))
+next-listed (suc i) (suc n) (bad o) e h = absurd (true≢false (sym e))
+next-listed (suc i) (suc n) (t ▸ ts) e h =
+    next-listed i n (rest ts) (both (isEntry (t .shape)) (listed n (rest ts)) e .1) (le-of-suc-le-suc h)
+
+map-append : {A B : Type 0} (f : A → B) (xs ys : List A) → map f (xs ++ ys) ≡ map f xs ++ map f ys
+map-append f [] ys = refl
+map-append f (x ∷ xs) ys = ap (λ l. f x ∷ l) (map-append f xs ys)
+
+-- a name's bytes are as many as it says
+own-length : (s : List ℕ) (n : Name) → InText s n → length (take (n .length) (drop (n .offset) s)) ≡ n .length
+own-length s n h = length-take-le (n .length) (drop (n .offset) s) (simp length-drop (omega arith))
+
+-- a name in the text is the pair of its own entry
+pub own-pair : (s : List ℕ) (r : checked.Item) → InText s (r .name) → pairOf (entryAs s r) ≡ r .name
+own-pair s r h = ap (λ (k : ℕ). record { offset = r .name .offset; length = k }) (own-length s (r .name) h)
+
+-- So many entries were read, and what each is taken for stands in the array.
+pub record Gone {A : Type 0} (f : Item → A) (s : List ℕ) (is : Items) (xs : List A) (i at : ℕ) : Type 0 where
+  pub size : length xs ≡ 64
+  pub here : afterEntries i (tokensFrom s (is .first)) ≡ tokensFrom s at
+  pub filled : take i xs ≡ map f (entries i (tokensFrom s (is .first)))
+  pub most : i ≤ is .count
+
+-- one more
+pub one-more :
+    {A : Type 0} (f : Item → A) (s : List ℕ) (is : Items) (xs : List A) (i o p : ℕ) (r : checked.Item) (x : A)
+    → Listed s is
+    → Gone f s is xs i o
+    → i < is .count
+    → ItemHere s o r
+    → rest (tokensFrom s (r .end)) ≡ tokensFrom s p
+    → f (entryAs s r) ≡ x
+    → Gone f s is (set xs i x) (i + 1) p
+one-more {A} f s is xs i o p r x l g h t e q =
+    let T = tokensFrom s (is .first) in
+    record {
+      size = length-set xs i x ∙ g .size;
+      here =
+          ap (λ (k : ℕ). afterEntries k T) (add-one i)
+          ∙ after-more i T
+          ∙ ap (λ (ts : Tokens). rest (rest ts)) (g .here)
+          ∙ ap rest (t .behind)
+          ∙ e;
+      filled =
+          ap (λ (k : ℕ). take k (set xs i x)) (add-one i)
+          ∙ take-suc-set xs i x (omega (arith, g .size, l .few))
+          ∙ ap (λ (ns : List A). ns ++ x ∷ []) (g .filled)
+          ∙ ap (λ (y : A). map f (entries i T) ++ y ∷ []) (sym q)
+          ∙ ap (λ (ys : List Item). map f (entries i T) ++ map f ys) (sym (t .entry) ∙ ap (entries 1) (sym (g .here)))
+          ∙ sym (map-append f (entries i T) (entries 1 (afterEntries i T)))
+          ∙ ap (map f) (sym (entries-more i T (first-listed i (is .count) T (l .are) (g .most))))
+          ∙ ap (λ (k : ℕ). map f (entries k T)) (sym (add-one i));
+      most = omega arith;
+    }
