@@ -304,11 +304,11 @@ fn nth(
     let mut cur = 0;
     loop {
         match next_statement(text, classes, labels, keys, cur, n, limit) {
-            NextRead::Statement(form, c) => {
+            NextRead::Statement(form, next) => {
                 if n == index {
                     return StatementAt::Statement(form);
                 }
-                cur = c.at;
+                cur = next.at;
                 n += 1;
             }
             NextRead::End => return StatementAt::Refused(Refusal {
