@@ -1,0 +1,28 @@
+-- Document 01, The calls offered: "Print: a text gives its canonical text." And Faults, 19: "an output shorter than its answer".
+use Prim.Native.Nat.{ℕ}
+use mathlib.Core.Bool.{cond}
+use mathlib.Core.List.{List, _++_}
+use lib.Dec.{ltb}
+use lib.ListN.{length, drop}
+use Rattle.reading.specs.Statement.{Statement}
+use Rattle.reading.specs.Answer.{Answer, accepted, refused}
+use Rattle.reading.specs.Read.{readText}
+use Rattle.canonical.specs.Canonical.{canonical}
+
+abbrev pub printed : Answer (List Statement) → Answer (List ℕ)
+printed (accepted ss) = accepted (canonical ss)
+printed (refused n p) = refused n p
+
+-- the canonical text of a text, under a limit for counts
+unfoldable pub printText : ℕ → List ℕ → Answer (List ℕ)
+printText limit text = printed (readText limit text)
+
+-- an answer that an output has room for
+abbrev pub fitting : ℕ → Answer (List ℕ) → Answer (List ℕ)
+fitting room (accepted bs) = cond (ltb room (length bs)) (refused 19 0) (accepted bs)
+fitting room (refused n p) = refused n p
+
+-- "Output past the answer's length is untouched", and all of it when refusing
+abbrev pub output : Answer (List ℕ) → List ℕ → List ℕ
+output (accepted bs) before = bs ++ drop (length bs) before
+output (refused n p) before = before

@@ -1,0 +1,1 @@
+// Printing: the definition of what a canonical text is stands in specs/.
