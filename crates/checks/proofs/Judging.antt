@@ -1,13 +1,14 @@
 -- A list is judged entry by entry: what is left of it from an offset on decides what the whole list does.
 -- Assumes nothing.
 use mathlib.Core.Path.{_≡_, refl, _∙_, ap}
-use mathlib.Core.Bool.{Bool, true, false, cond}
+use mathlib.Core.Bool.{Bool, true, false, cond, _&&_}
 use mathlib.Core.List.{List, [], _∷_}
 use mathlib.Core.Option.{Option, some, none}
 use Prim.Native.Nat.{ℕ, suc, _-_, _<_}
 use native.Mathlib.Omega.{arith}
+use lib.Dec.{leb}
 use Rattle.counts.specs.declared.Counted.the-variants as count
-use Rattle.counts.specs.Count.{countOf, value, isCount}
+use Rattle.counts.specs.Count.{countOf, value, whole}
 use Rattle.labels.specs.declared.Family.{Family}
 use Rattle.labels.specs.declared.Found.the-variants.{Place, Nothing}
 use Rattle.labels.specs.Word.{find}
@@ -18,11 +19,11 @@ use Rattle.reading.specs.Answer.{Answer, accepted, refused, _>>=_}
 use Rattle.reading.specs.Argument.{countAt, modeList, countList}
 use Rattle.forms.specs.declared.Refusal.{Refusal}
 use Rattle.forms.specs.Items.{tokensFrom, nameIn, entries, rest, listed}
-use Rattle.forms.specs.Forms.{placesIn}
+use Rattle.forms.specs.Forms.{placesIn, countOr0, valuesIn}
 use Rattle.checks.specs.declared.Checked.{Checked}
 use Rattle.checks.specs.declared.Checked.the-variants.{Fine, Refused}
 use Rattle.checks.specs.declared.Item as checked
-use Rattle.checks.specs.Answers.{checkedAs, refusedBy, kindOf, ItemHere, valuesIn}
+use Rattle.checks.specs.Answers.{checkedAs, refusedBy, kindOf, ItemHere}
 use Rattle.checks.proofs.Entries.{entries-more, listed-more}
 
 -- an entry as the definition of reading has it
@@ -87,11 +88,11 @@ checked-more m a ms Fine e = rw e
 checked-more m a ms (Refused r) e = rw e
 
 -- what a look-up found
-found-some : (o : Option ℕ) (i : ℕ) → Place i ≡ foundAs o → o ≡ some i
+pub found-some : (o : Option ℕ) (i : ℕ) → Place i ≡ foundAs o → o ≡ some i
 found-some none i e = cc
 found-some (some k) i e = cc
 
-found-none : (o : Option ℕ) → Nothing ≡ foundAs o → o ≡ none
+pub found-none : (o : Option ℕ) → Nothing ≡ foundAs o → o ≡ none
 found-none none e = refl
 found-none (some k) e = cc
 
@@ -113,14 +114,23 @@ module _ (f : Family) (s : List ℕ) (i : checked.Item) where
   unfolding modeList
   mode-refused e is = rw (found-none (find (nameIn s (i .name) .spelling) (labelsOf f)) e)
 
--- what a number is as a count
-pub counted-value : (limit : ℕ) (w : List ℕ) (n : ℕ) → count.Count n ≡ countOf limit w → countOf limit w ≡ count.Count (value w)
+-- a count under a limit is the same 32-bit number
+pub counted-value :
+    (limit : ℕ) (w : List ℕ) (n : ℕ)
+    → count.Count n ≡ countOf limit w
+    → countOf limit w ≡ count.Count (countOr0 (countOf 4294967295 w))
 unfolding countOf
-counted-value limit w n e = go (isCount limit w) e
+counted-value limit w n e = go (whole w) (leb (value w) 4294967295) (leb (value w) limit) e
   where
-    go : (t : Bool) → count.Count n ≡ cond t (count.Count (value w)) count.Refused → cond t (count.Count (value w)) count.Refused ≡ count.Count (value w)
-    go true e = refl
-    go false e = cc
+    go :
+        (a b c : Bool)
+        → count.Count n ≡ cond (a && b && c) (count.Count (value w)) count.Refused
+        → cond (a && b && c) (count.Count (value w)) count.Refused
+        ≡ count.Count (countOr0 (cond (a && b && b) (count.Count (value w)) count.Refused))
+    go true true true e = refl
+    go true true false e = cc
+    go true false c e = cc
+    go false b c e = cc
 
 module _ (limit o : ℕ) (s : List ℕ) (i : checked.Item) where
   pub count-fine :
@@ -133,7 +143,7 @@ module _ (limit o : ℕ) (s : List ℕ) (i : checked.Item) where
   unfolding countList countAt
   count-fine n k e is r h =
       rw (k, counted-value limit (nameIn s (i .name) .spelling) n e)
-      (checked-more (value (nameIn s (i .name) .spelling)) (countList limit o is) (valuesIn is) r h)
+      (checked-more (countOr0 (countOf 4294967295 (nameIn s (i .name) .spelling))) (countList limit o is) (valuesIn is) r h)
 
   pub count-refused :
       i .number ≡ true

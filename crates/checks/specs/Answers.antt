@@ -3,7 +3,6 @@ use Prim.Native.Nat.{ℕ}
 use mathlib.Core.Bool.{Bool, true, false}
 use mathlib.Core.List.{List, [], _∷_, map}
 use mathlib.Core.Path.{_≡_}
-use Rattle.counts.specs.Count.{value}
 use Rattle.labels.specs.declared.Family.{Family}
 use Rattle.reading.specs.Statement.{Name, Kind, aWord, aNumber, Item}
 use Rattle.reading.specs.Statement as statement
@@ -64,10 +63,6 @@ opReadAs (opRead.Refused r) = refusedBy r
 -- modes of an array, repeats gone
 abbrev pub modesListed : Family → List Item → Answer statement.Modes
 modesListed f is = modeList f is >>= λ ms. accepted (statement.modes (firsts ms))
-
--- the values of entries that are all counts
-abbrev pub valuesIn : List Item → List ℕ
-valuesIn is = map (λ i. value (i .name .spelling)) is
 
 -- what a token of a list is as an entry
 abbrev pub kindOf : Bool → Kind

@@ -15,9 +15,9 @@ ghost use Rattle.reading.specs.Statement.{aWord, aNumber};
 ghost use Rattle.reading.specs.Argument.{array, placeOf, loneCount, modeList, countList, modesOf, countsOf, operandOf, itemsOf};
 ghost use Rattle.reading.specs.Feature.{isN, operatorOf, nameOf};
 ghost use Rattle.forms.specs.Items.{tokensFrom, nameIn, itemsIn, listed, rest};
-ghost use Rattle.forms.specs.Forms.{argIn, placesIn};
+ghost use Rattle.forms.specs.Forms.{argIn, placesIn, valuesIn};
 ghost use Rattle.forms.specs.Fits.{InText, Listed, Fits};
-ghost use Rattle.checks.specs.Answers.{checkedAs, modesAs, countsAs, operandAs, itemsAs, nameAs, opReadAs, ItemHere, valuesIn, modesListed};
+ghost use Rattle.checks.specs.Answers.{checkedAs, modesAs, countsAs, operandAs, itemsAs, nameAs, opReadAs, ItemHere, modesListed};
 use counts::Counted;
 use forms::Arg;
 use forms::Counts;
@@ -104,7 +104,7 @@ pub fn past_comma(text: &[u8], classes: &[u8; 256], at: usize) -> usize
 }
 
 // A name's bytes looked up in a family.
-fn mode_at(text: &[u8], labels: &[u8; 608], family: Family, name: Name) -> Found
+pub fn mode_at(text: &[u8], labels: &[u8; 608], family: Family, name: Name) -> Found
     requires { ⌜ (now labels ≡ labelTable) × InText (now text) name ⌝ }
     ensures { λ r. ⌜ r ≡ foundAs (find (nameIn (now (text .entry)) name .spelling) (labelsOf family)) ⌝ }
 {

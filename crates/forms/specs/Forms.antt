@@ -3,7 +3,9 @@ use Prim.Native.Nat.{ℕ, _-_}
 use mathlib.Core.List.{List, _∷_, map}
 use mathlib.Core.Option.{Option, some, none}
 use lib.ListN.{take, replicate}
-use Rattle.counts.specs.Count.{value}
+use Rattle.counts.specs.declared.Counted.{Counted}
+use Rattle.counts.specs.declared.Counted.the-variants.{Count, Refused}
+use Rattle.counts.specs.Count.{countOf}
 use Rattle.labels.specs.declared.Family.{Family}
 use Rattle.labels.specs.declared.Family.the-variants.{
   AbsorptionMode,
@@ -86,17 +88,31 @@ abbrev pub placeOr0 : Option ℕ → ℕ
 placeOr0 none = 0
 placeOr0 (some i) = i
 
+abbrev pub placeFor : Family → Item → ℕ
+placeFor f i = placeOr0 (find (i .name .spelling) (labelsOf f))
+
 abbrev pub placesIn : Family → List Item → List ℕ
-placesIn f is = map (λ i. placeOr0 (find (i .name .spelling) (labelsOf f))) is
+placesIn f is = map (placeFor f) is
 
 unfoldable pub modesIn : List ℕ → Family → Modes → statement.Modes
 modesIn s f modes.Wildcard = statement.allModes
 modesIn s f (modes.List is) = statement.modes (firsts (placesIn f (itemsIn s is)))
 
+-- each entry as a 32-bit number, all of them being counts
+abbrev pub countOr0 : Counted → ℕ
+countOr0 Refused = 0
+countOr0 (Count v) = v
+
+abbrev pub countFor : Item → ℕ
+countFor i = countOr0 (countOf 4294967295 (i .name .spelling))
+
+abbrev pub valuesIn : List Item → List ℕ
+valuesIn is = map countFor is
+
 unfoldable pub countsIn : List ℕ → Counts → statement.Counts
 countsIn s (counts.Single v) = statement.count v
 countsIn s (counts.Range a b) = statement.range a b
-countsIn s (counts.List is) = statement.counts (map (λ i. value (i .name .spelling)) (itemsIn s is))
+countsIn s (counts.List is) = statement.counts (valuesIn (itemsIn s is))
 
 unfoldable pub transitsIn : List ℕ → TransitCounts → statement.TransitCounts
 transitsIn s transits.N = statement.estimated

@@ -3,7 +3,8 @@ use mathlib.Core.Path.{refl, _∙_, sym}
 use native.Mathlib.Omega.{arith}
 use denote.Ref.{now}
 use Rattle.reading.specs.Argument.{countList}
-use Rattle.checks.specs.Answers.{checkedAs, valuesIn}
+use Rattle.forms.specs.Forms.{valuesIn}
+use Rattle.checks.specs.Answers.{checkedAs}
 use Rattle.forms.proofs.Lists.{items-are}
 use Rattle.checks.proofs.Judging.{Left, left-none, left-one, left-refused, left-next, count-fine, count-refused, count-word}
 use borrow.Author.Needs.{needs}

@@ -13,12 +13,13 @@ use Rattle.tokens.specs.Token.{Tokens, finish, bad, _▸_}
 use Rattle.reading.specs.Statement.{Item}
 use Rattle.forms.specs.declared.Name.{Name}
 use Rattle.forms.specs.declared.Items.{Items}
-use Rattle.forms.specs.Items.{tokensFrom, nameIn, rest, entries, afterEntries, isEntry, listed}
+use Rattle.forms.specs.Items.{tokensFrom, nameIn, rest, entries, afterEntries, isEntry, listed, itemsIn}
+use Rattle.forms.proofs.Lists.{items-are}
 use Rattle.forms.specs.Fits.{InText, Listed}
 use Rattle.arguments.proofs.Entries.{entries-more, after-more}
 use Rattle.checks.specs.declared.Item as checked
 use Rattle.checks.specs.Answers.{kindOf, ItemHere}
-use Rattle.values.specs.Lists.{pairOf}
+use Rattle.lists.specs.Lists.{pairOf}
 
 -- an entry that was read again, as the definition has it
 abbrev pub entryAs : List ℕ → checked.Item → Item
@@ -29,7 +30,7 @@ both true b e = (refl, e)
 both false b e = absurd (true≢false (sym e))
 
 -- the first so many of a list's entries are a list, and so is the next one
-pub first-listed : (i n : ℕ) (ts : Tokens) → listed n ts ≡ true → i ≤ n → listed i ts ≡ true
+first-listed : (i n : ℕ) (ts : Tokens) → listed n ts ≡ true → i ≤ n → listed i ts ≡ true
 unfolding listed
 first-listed zero n ts e h = refl
 first-listed (suc i) zero ts e h = absurd (not-suc-le-zero h)
@@ -39,7 +40,7 @@ first-listed (suc i) (suc n) (t ▸ ts) e h =
     let p = both (isEntry (t .shape)) (listed n (rest ts)) e in
     simp (p .0) (first-listed i n (rest ts) (p .1) (le-of-suc-le-suc h))
 
-pub next-listed : (i n : ℕ) (ts : Tokens) → listed n ts ≡ true → i < n → listed 1 (afterEntries i ts) ≡ true
+next-listed : (i n : ℕ) (ts : Tokens) → listed n ts ≡ true → i < n → listed 1 (afterEntries i ts) ≡ true
 unfolding listed afterEntries
 next-listed zero zero ts e h = absurd (not-suc-le-zero h)
 next-listed zero (suc n) finish e h = e
@@ -51,7 +52,7 @@ next-listed (suc i) (suc n) (bad o) e h = absurd (true≢false (sym e))
 next-listed (suc i) (suc n) (t ▸ ts) e h =
     next-listed i n (rest ts) (both (isEntry (t .shape)) (listed n (rest ts)) e .1) (le-of-suc-le-suc h)
 
-map-append : {A B : Type 0} (f : A → B) (xs ys : List A) → map f (xs ++ ys) ≡ map f xs ++ map f ys
+pub map-append : {A B : Type 0} (f : A → B) (xs ys : List A) → map f (xs ++ ys) ≡ map f xs ++ map f ys
 map-append f [] ys = refl
 map-append f (x ∷ xs) ys = ap (λ l. f x ∷ l) (map-append f xs ys)
 
@@ -63,12 +64,49 @@ own-length s n h = length-take-le (n .length) (drop (n .offset) s) (simp length-
 pub own-pair : (s : List ℕ) (r : checked.Item) → InText s (r .name) → pairOf (entryAs s r) ≡ r .name
 own-pair s r h = ap (λ (k : ℕ). record { offset = r .name .offset; length = k }) (own-length s (r .name) h)
 
--- So many entries were read, and what each is taken for stands in the array.
+-- So many entries of a list were read, and the next one stands at an offset.
+pub record Come (s : List ℕ) (is : Items) (i at : ℕ) : Type 0 where
+  pub here : afterEntries i (tokensFrom s (is .first)) ≡ tokensFrom s at
+  pub most : i ≤ is .count
+
+module _ (s : List ℕ) (is : Items) (i o : ℕ) (l : Listed s is) (g : Come s is i o) (h : i < is .count) where
+  -- there is a next one
+  pub next-stands : listed 1 (tokensFrom s o) ≡ true
+  next-stands = sym (ap (listed 1) (g .here)) ∙ next-listed i (is .count) (tokensFrom s (is .first)) (l .are) h
+
+  module _ (r : checked.Item) (t : ItemHere s o r) where
+    -- it comes behind those that were read
+    pub next-entry : entries (i + 1) (tokensFrom s (is .first)) ≡ entries i (tokensFrom s (is .first)) ++ entryAs s r ∷ []
+    next-entry =
+        let T = tokensFrom s (is .first) in
+        ap (λ (k : ℕ). entries k T) (add-one i)
+        ∙ entries-more i T (first-listed i (is .count) T (l .are) (g .most))
+        ∙ ap (λ (ys : List Item). entries i T ++ ys) (ap (entries 1) (g .here) ∙ t .entry)
+
+    pub next-come : (p : ℕ) → rest (tokensFrom s (r .end)) ≡ tokensFrom s p → Come s is (i + 1) p
+    next-come p e =
+        let T = tokensFrom s (is .first) in
+        record {
+          here =
+              ap (λ (k : ℕ). afterEntries k T) (add-one i)
+              ∙ after-more i T
+              ∙ ap (λ (ts : Tokens). rest (rest ts)) (g .here)
+              ∙ ap rest (t .behind)
+              ∙ e;
+          most = omega arith;
+        }
+
+-- the whole list was read
+pub come-last : (s : List ℕ) (is : Items) (i o : ℕ) → Listed s is → Come s is i o → is .count ≤ i → entries i (tokensFrom s (is .first)) ≡ itemsIn s is
+come-last s is i o l g h =
+    let e : i ≡ is .count = omega (arith, g .most) in
+    ap (λ (k : ℕ). entries k (tokensFrom s (is .first))) e ∙ sym (items-are s is l)
+
+-- What each entry that was read is taken for stands in the array.
 pub record Gone {A : Type 0} (f : Item → A) (s : List ℕ) (is : Items) (xs : List A) (i at : ℕ) : Type 0 where
   pub size : length xs ≡ 64
-  pub here : afterEntries i (tokensFrom s (is .first)) ≡ tokensFrom s at
+  pub come : Come s is i at
   pub filled : take i xs ≡ map f (entries i (tokensFrom s (is .first)))
-  pub most : i ≤ is .count
 
 -- one more
 pub one-more :
@@ -84,20 +122,32 @@ one-more {A} f s is xs i o p r x l g h t e q =
     let T = tokensFrom s (is .first) in
     record {
       size = length-set xs i x ∙ g .size;
-      here =
-          ap (λ (k : ℕ). afterEntries k T) (add-one i)
-          ∙ after-more i T
-          ∙ ap (λ (ts : Tokens). rest (rest ts)) (g .here)
-          ∙ ap rest (t .behind)
-          ∙ e;
+      come = next-come s is i o l (g .come) h r t p e;
       filled =
           ap (λ (k : ℕ). take k (set xs i x)) (add-one i)
           ∙ take-suc-set xs i x (omega (arith, g .size, l .few))
           ∙ ap (λ (ns : List A). ns ++ x ∷ []) (g .filled)
           ∙ ap (λ (y : A). map f (entries i T) ++ y ∷ []) (sym q)
-          ∙ ap (λ (ys : List Item). map f (entries i T) ++ map f ys) (sym (t .entry) ∙ ap (entries 1) (sym (g .here)))
-          ∙ sym (map-append f (entries i T) (entries 1 (afterEntries i T)))
-          ∙ ap (map f) (sym (entries-more i T (first-listed i (is .count) T (l .are) (g .most))))
-          ∙ ap (λ (k : ℕ). map f (entries k T)) (sym (add-one i));
-      most = omega arith;
+          ∙ sym (map-append f (entries i T) (entryAs s r ∷ []))
+          ∙ ap (map f) (sym (next-entry s is i o l (g .come) h r t));
     }
+
+-- nothing read yet
+pub none-come : (s : List ℕ) (is : Items) → Come s is 0 (is .first)
+unfolding afterEntries
+none-come s is = record { here = refl; most = omega arith }
+
+pub none-gone : {A : Type 0} (f : Item → A) (s : List ℕ) (is : Items) (xs : List A) → length xs ≡ 64 → Gone f s is xs 0 (is .first)
+unfolding entries
+none-gone f s is xs e = record { size = e; come = none-come s is; filled = refl }
+
+-- all of them
+pub all-gone :
+    {A : Type 0} (f : Item → A) (s : List ℕ) (is : Items) (xs : List A) (i o : ℕ)
+    → Listed s is
+    → Gone f s is xs i o
+    → is .count ≤ i
+    → take (is .count) xs ≡ map f (itemsIn s is)
+all-gone {A} f s is xs i o l g h =
+    let e : is .count ≡ i = omega (arith, g .come .most) in
+    ap (λ (k : ℕ). take k xs) e ∙ g .filled ∙ ap (map f) (come-last s is i o l (g .come) h)

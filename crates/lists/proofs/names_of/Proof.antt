@@ -1,15 +1,11 @@
--- `values::names_of` meets its contract. The invariant: so many entries were read, and their pairs stand in the array. Assumes nothing.
-use Prim.Native.Nat.{ℕ, _-_}
-use mathlib.Core.Path.{_≡_, refl, _∙_, ap, sym}
+-- `lists::names_of` meets its contract. The invariant: so many entries were read, and their pairs stand in the array. Assumes nothing.
+use Prim.Native.Nat.{_-_}
 use native.Mathlib.Omega.{arith}
-use lib.ListN.{take}
 use denote.Ref.{now}
-use Rattle.forms.specs.Items.{tokensFrom, entries, afterEntries, listed}
-use Rattle.forms.proofs.Lists.{items-are}
-use Rattle.values.specs.Lists.{pairOf, pairsOf}
-use Rattle.values.proofs.Filling.{Gone, next-listed, one-more, own-pair}
-use Rattle.values.proofs.names_of.Statement.{statement}
-use Rattle.values.proofs.names_of.Tie as tie
+use Rattle.lists.specs.Lists.{pairOf}
+use Rattle.lists.proofs.Filling.{Gone, next-stands, one-more, none-gone, all-gone, own-pair}
+use Rattle.lists.proofs.names_of.Statement.{statement}
+use Rattle.lists.proofs.names_of.Tie as tie
 
 abbrev Inv-loop : tie.InvT-loop
 Inv-loop text classes items names₀ i₀ at₀ names i at = Gone pairOf text items names i at
@@ -21,15 +17,13 @@ no-names-requires : tie.Need-no-names-requires Inv-loop μ-loop
 no-names-requires c κs = tt
 
 loop-holds : tie.Need-loop-holds Inv-loop μ-loop
-unfolding entries afterEntries
-loop-holds c = record { size = c .no-names .ensures; here = refl; filled = refl; most = omega arith }
+loop-holds c = none-gone pairOf _ _ _ (c .no-names .ensures)
 
 item-at-requires : tie.Need-item-at-requires Inv-loop μ-loop
 item-at-requires c κs =
     let l = c .before .before in
     let p = l .before .before .before .pre in
-    let g = l .loop .inv in
-    (p .0, sym (ap (listed 1) (g .here)) ∙ next-listed (l .loop .i) _ _ (p .1 .are) (c .if1 .taken))
+    (p .0, next-stands _ _ (l .loop .i) (l .loop .at) (p .1) (l .loop .inv .come) (c .if1 .taken))
 
 mul-names : tie.Need-mul-names Inv-loop μ-loop
 mul-names c =
@@ -64,14 +58,7 @@ loop-again c =
 returns : tie.Need-returns Inv-loop μ-loop
 returns c =
     let l = c .before .before in
-    let a = l .before .before .before .args in
-    let s = now (a .text) in
-    let g = l .loop .inv in
-    let e : l .loop .i ≡ a .items .count = omega (arith, g .most, c .if1 .left) in
-    ap (λ (k : ℕ). take k (l .loop .names)) (sym e)
-    ∙ g .filled
-    ∙ ap (λ (k : ℕ). pairsOf (entries k (tokensFrom s (a .items .first)))) e
-    ∙ ap pairsOf (sym (items-are s (a .items) (l .before .before .before .pre .1)))
+    all-gone pairOf _ _ _ (l .loop .i) (l .loop .at) (l .before .before .before .pre .1) (l .loop .inv) (c .if1 .left)
 
 pub names-of-spec : {M : Type 1} → statement M
 names-of-spec =
