@@ -1,6 +1,6 @@
 -- Writing bytes into a buffer: one run after another is one run, a buffer keeps its length, and where there is room the bytes stand there.
 -- Assumes nothing.
-use mathlib.Core.Path.{_≡_, refl, _∙_, ap, sym}
+use mathlib.Core.Path.{_≡_, refl, _∙_, ap, sym, subst}
 use mathlib.Core.List.{List, [], _∷_, _++_}
 use Prim.Native.Nat.{ℕ, zero, suc, _+_, _≤_, _<_}
 use native.Mathlib.Nat.{le-of-lt, le-of-suc-le-suc, not-suc-le-zero, add-zero, zero-add, suc-add}
@@ -99,6 +99,9 @@ pub room-next :
     → Written a at (take i bs) b m
     → Room m (getD bs i 0 ∷ [])
 room-next bs i r h w = omega (arith, w .next, length-take-le i bs (le-of-lt h))
+
+pub room-same : (at : ℕ) {bs cs : List ℕ} → bs ≡ cs → Room at bs → Room at cs
+room-same at e r = subst (Room at) e r
 
 pub room-before : (at : ℕ) (bs cs : List ℕ) → Room at (bs ++ cs) → Room at bs
 room-before at bs cs h = omega (arith, length-append bs cs)

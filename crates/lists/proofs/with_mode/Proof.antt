@@ -25,8 +25,7 @@ add-t9 c = search needs
 returns-2 : tie.Need-returns-2
 returns-2 c =
     let k = c .before .before .before .before in
-    let a = k .args in
-    (
+    let a = k .args in (
       length-set (a .list .places) (a .list .count) (a .place) ∙ k .pre .0,
       ap (λ (n : ℕ). take n (set (a .list .places) (a .list .count) (a .place))) (add-one (a .list .count))
           ∙ take-suc-set (a .list .places) (a .list .count) (a .place) (omega (arith, k .pre))
