@@ -5,3 +5,14 @@ pub mod ShorterFeatures
 pub mod ShorterSteps
 pub mod ShorterTokens
 pub mod Shorter
+pub mod Spelling
+pub mod Spelled
+pub mod Arguments
+pub mod Lists
+pub mod Modes
+pub mod Counts
+pub mod Names
+pub mod Features
+pub mod Statements
+pub mod Forgetting
+pub mod Rereading

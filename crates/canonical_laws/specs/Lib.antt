@@ -1,1 +1,3 @@
 pub mod Shorter
+pub mod Forgotten
+pub mod Printed

@@ -1,4 +1,4 @@
--- The fourteen features, raised.
+-- The fourteen features, moved.
 -- Assumes nothing.
 use Prim.Native.Nat.{ℕ}
 use mathlib.Core.Path.{_≡_, refl}
@@ -75,161 +75,163 @@ use Rattle.reading.specs.Feature.{
   knownFeature,
   buildFeature,
 }
-use Rattle.reading_laws.specs.Raised.{raiseName, raiseOperand, raiseFeature, raiseArg, same, Raises}
+use Rattle.reading_laws.specs.Moved.{moveName, moveOperand, moveFeature, moveArg, same, Moves}
 use Rattle.reading_laws.proofs.Bind.{
   stands,
   falls,
-  bind-raised,
-  cond-raised,
-  one-raised,
-  two-raised,
-  one-or-two-raised,
-  three-or-four-raised,
-  mandatory-raised,
-  optionally-raised,
+  bind-moved,
+  cond-moved,
+  one-moved,
+  two-moved,
+  one-or-two-moved,
+  three-or-four-moved,
+  mandatory-moved,
+  optionally-moved,
 }
-use Rattle.reading_laws.proofs.Arguments.{place-raised, modes-raised, operand-raised, counts-raised}
+use Rattle.reading_laws.proofs.Arguments.{place-moved, modes-moved, operand-moved, counts-moved}
 
 -- an argument is refused at its place
-argument-falls : {A B : Type 0} (d : ℕ) (r : A → B) (a : Arg) → Raises d r (wrongArgument (placeOf (raiseArg d a))) (wrongArgument (placeOf a))
-argument-falls d r a = record { is = simp (place-raised d a) }
+argument-falls :
+    {A B : Type 0} (to : ℕ → ℕ) (r : A → B) (a : Arg) → Moves to r (wrongArgument (placeOf (moveArg to a))) (wrongArgument (placeOf a))
+argument-falls to r a = record { is = simp (place-moved to a) }
 
 -- whether an argument is N is its spelling's
-n-raised : (d : ℕ) (a : Arg) → isN (raiseArg d a) ≡ isN a
-n-raised d (star o) = refl
-n-raised d (plus o) = refl
-n-raised d (symbol o n) = refl
-n-raised d (single i) = refl
-n-raised d (range o a b) = refl
-n-raised d (array o is) = refl
+n-moved : (to : ℕ → ℕ) (a : Arg) → isN (moveArg to a) ≡ isN a
+n-moved to (star o) = refl
+n-moved to (plus o) = refl
+n-moved to (symbol o n) = refl
+n-moved to (single i) = refl
+n-moved to (range o a b) = refl
+n-moved to (array o is) = refl
 
-n-alone-raised : (d : ℕ) (b : Option Arg) → Raises d same (nAlone (Option·map (raiseArg d) b)) (nAlone b)
-n-alone-raised d none = stands refl
-n-alone-raised d (some b) = argument-falls d same b
+n-alone-moved : (to : ℕ → ℕ) (b : Option Arg) → Moves to same (nAlone (Option·map (moveArg to) b)) (nAlone b)
+n-alone-moved to none = stands refl
+n-alone-moved to (some b) = argument-falls to same b
 
 -- the counts of TRANSITS
-pub transits-raised :
-    (d limit : ℕ) (a : Arg) (b : Option Arg)
-    → Raises d same (transitsOf limit (raiseArg d a) (Option·map (raiseArg d) b)) (transitsOf limit a b)
+pub transits-moved :
+    (to : ℕ → ℕ) (limit : ℕ) (a : Arg) (b : Option Arg)
+    → Moves to same (transitsOf limit (moveArg to a) (Option·map (moveArg to) b)) (transitsOf limit a b)
 unfolding transitsOf
-transits-raised d limit a b =
-    rw (n-raised d a)
-    (cond-raised (isN a) (n-alone-raised d b) (bind-raised _ (counts-raised d limit a) λ c. stands refl))
+transits-moved to limit a b =
+    rw (n-moved to a)
+    (cond-moved (isN a) (n-alone-moved to b) (bind-moved _ (counts-moved to limit a) λ c. stands refl))
 
 -- the mandatory `*`
-pub explicit-raised : (d : ℕ) (m : Bool) (a : Arg) (ms : Modes) → Raises d same (explicit m (raiseArg d a) ms) (explicit m a ms)
+pub explicit-moved : (to : ℕ → ℕ) (m : Bool) (a : Arg) (ms : Modes) → Moves to same (explicit m (moveArg to a) ms) (explicit m a ms)
 unfolding explicit
-explicit-raised d true a ms = stands refl
-explicit-raised d false a allModes = argument-falls d same a
-explicit-raised d false a (modes ms) = stands refl
+explicit-moved to true a ms = stands refl
+explicit-moved to false a allModes = argument-falls to same a
+explicit-moved to false a (modes ms) = stands refl
 
 -- an operator
-pub operator-raised : (d : ℕ) (o : Option Arg) → Raises d same (operatorOf (Option·map (raiseArg d) o)) (operatorOf o)
+pub operator-moved : (to : ℕ → ℕ) (o : Option Arg) → Moves to same (operatorOf (Option·map (moveArg to) o)) (operatorOf o)
 unfolding operatorOf
-operator-raised d none = stands refl
-operator-raised d (some (star o)) = stands refl
-operator-raised d (some (plus o)) = stands refl
-operator-raised d (some (symbol o n)) = falls
-operator-raised d (some (single i)) = falls
-operator-raised d (some (range o a b)) = falls
-operator-raised d (some (array o is)) = falls
+operator-moved to none = stands refl
+operator-moved to (some (star o)) = stands refl
+operator-moved to (some (plus o)) = stands refl
+operator-moved to (some (symbol o n)) = falls
+operator-moved to (some (single i)) = falls
+operator-moved to (some (range o a b)) = falls
+operator-moved to (some (array o is)) = falls
 
-alone-raised : (d : ℕ) (k j : Kind) (n : Name) → Raises d (raiseName d) (alone k j (raiseName d n)) (alone k j n)
-alone-raised d aWord aWord n = stands refl
-alone-raised d aWord aNumber n = falls
-alone-raised d aNumber aWord n = falls
-alone-raised d aNumber aNumber n = stands refl
+alone-moved : (to : ℕ → ℕ) (k j : Kind) (n : Name) → Moves to (moveName to) (alone k j (moveName to n)) (alone k j n)
+alone-moved to aWord aWord n = stands refl
+alone-moved to aWord aNumber n = falls
+alone-moved to aNumber aWord n = falls
+alone-moved to aNumber aNumber n = stands refl
 
 -- a word, or a number, alone
-pub name-raised : (d : ℕ) (k : Kind) (a : Arg) → Raises d (raiseName d) (nameOf k (raiseArg d a)) (nameOf k a)
+pub name-moved : (to : ℕ → ℕ) (k : Kind) (a : Arg) → Moves to (moveName to) (nameOf k (moveArg to a)) (nameOf k a)
 unfolding nameOf
-name-raised d k (star o) = falls
-name-raised d k (plus o) = falls
-name-raised d k (symbol o n) = falls
-name-raised d k (single i) = alone-raised d k (i .kind) (i .name)
-name-raised d k (range o a b) = falls
-name-raised d k (array o is) = falls
+name-moved to k (star o) = falls
+name-moved to k (plus o) = falls
+name-moved to k (symbol o n) = falls
+name-moved to k (single i) = alone-moved to k (i .kind) (i .name)
+name-moved to k (range o a b) = falls
+name-moved to k (array o is) = falls
 
 -- modes that may be left out have no place
-optional-modes-raised :
-    (d : ℕ) (f : Family) (b : Option Arg) → Raises d same (optionally (modesOf f) (Option·map (raiseArg d) b)) (optionally (modesOf f) b)
-optional-modes-raised d f none = stands refl
-optional-modes-raised d f (some b) = bind-raised _ (modes-raised d f b) λ ms. stands refl
+optional-modes-moved :
+    (to : ℕ → ℕ) (f : Family) (b : Option Arg)
+    → Moves to same (optionally (modesOf f) (Option·map (moveArg to) b)) (optionally (modesOf f) b)
+optional-modes-moved to f none = stands refl
+optional-modes-moved to f (some b) = bind-moved _ (modes-moved to f b) λ ms. stands refl
 
 -- a feature of modes alone, and IIV and IOV
-modes-only-raised :
-    (d : ℕ) (f : Family) (make : Modes → Feature) (k : Name) (m : Bool) (args : List Arg)
-    → ((ms : Modes) → make ms ≡ raiseFeature d (make ms))
-    → Raises d (raiseFeature d) (modesOnly f make (raiseName d k) m (map (raiseArg d) args)) (modesOnly f make k m args)
-modes-only-raised d f make k m args e =
-    one-raised k _ args λ a. bind-raised _ (modes-raised d f a) λ ms. mandatory-raised k (make ms) m (e ms)
+modes-only-moved :
+    (to : ℕ → ℕ) (f : Family) (make : Modes → Feature) (k : Name) (m : Bool) (args : List Arg)
+    → ((ms : Modes) → make ms ≡ moveFeature to (make ms))
+    → Moves to (moveFeature to) (modesOnly f make (moveName to k) m (map (moveArg to) args)) (modesOnly f make k m args)
+modes-only-moved to f make k m args e =
+    one-moved k _ args λ a. bind-moved _ (modes-moved to f a) λ ms. mandatory-moved k (make ms) m (e ms)
 
-variability-raised :
-    (d : ℕ) (make : Operand → Modes → Feature) (k : Name) (args : List Arg)
-    → ((ps : Operand) (es : Modes) → make (raiseOperand d ps) es ≡ raiseFeature d (make ps es))
-    → Raises d (raiseFeature d) (variability make (raiseName d k) (map (raiseArg d) args)) (variability make k args)
-variability-raised d make k args e =
-    two-raised k _ args λ p v.
-    bind-raised _ (operand-raised d p) λ ps.
-    bind-raised _ (modes-raised d VariabilityEffect v) λ es.
+variability-moved :
+    (to : ℕ → ℕ) (make : Operand → Modes → Feature) (k : Name) (args : List Arg)
+    → ((ps : Operand) (es : Modes) → make (moveOperand to ps) es ≡ moveFeature to (make ps es))
+    → Moves to (moveFeature to) (variability make (moveName to k) (map (moveArg to) args)) (variability make k args)
+variability-moved to make k args e =
+    two-moved k _ args λ p v.
+    bind-moved _ (operand-moved to p) λ ps.
+    bind-moved _ (modes-moved to VariabilityEffect v) λ es.
     stands (e ps es)
 
--- A feature of raised arguments is the raised feature.
-pub feature-raised :
-    (d limit : ℕ) (w : Keyword) (k : Name) (m : Bool) (args : List Arg)
-    → Raises d (raiseFeature d) (featureOf limit w (raiseName d k) m (map (raiseArg d) args)) (featureOf limit w k m args)
+-- A feature of moved arguments is the moved feature.
+pub feature-moved :
+    (to : ℕ → ℕ) (limit : ℕ) (w : Keyword) (k : Name) (m : Bool) (args : List Arg)
+    → Moves to (moveFeature to) (featureOf limit w (moveName to k) m (map (moveArg to) args)) (featureOf limit w k m args)
 unfolding featureOf
-feature-raised d limit ABSORPTION k m args = modes-only-raised d AbsorptionMode Absorption k m args λ ms. refl
-feature-raised d limit ELIMINATION k m args = modes-only-raised d EliminationMode Elimination k m args λ ms. refl
-feature-raised d limit PERIPHERALS k m args =
-    one-or-two-raised k _ args λ a b.
-    bind-raised _ (counts-raised d limit a) λ c.
-    bind-raised _ (optional-modes-raised d PeripheralKind b) λ p.
-    mandatory-raised k (Peripherals c p) m refl
-feature-raised d limit TRANSITS k m args =
-    one-or-two-raised k _ args λ a b.
-    bind-raised _ (transits-raised d limit a b) λ c.
-    bind-raised _ (optional-modes-raised d DepotMode b) λ p.
-    mandatory-raised k (Transits c p) m refl
-feature-raised d limit LAGTIME k m args = modes-only-raised d LagtimeMode Lagtime k m args λ ms. refl
-feature-raised d limit COVARIATE k m args =
-    three-or-four-raised k _ args λ p c e o.
-    bind-raised _ (operand-raised d p) λ ps.
-    bind-raised _ (operand-raised d c) λ cs.
-    bind-raised _ (modes-raised d CovariateEffect e) λ fs.
-    bind-raised _ (explicit-raised d m e fs) λ es.
-    bind-raised _ (operator-raised d o) λ op.
+feature-moved to limit ABSORPTION k m args = modes-only-moved to AbsorptionMode Absorption k m args λ ms. refl
+feature-moved to limit ELIMINATION k m args = modes-only-moved to EliminationMode Elimination k m args λ ms. refl
+feature-moved to limit PERIPHERALS k m args =
+    one-or-two-moved k _ args λ a b.
+    bind-moved _ (counts-moved to limit a) λ c.
+    bind-moved _ (optional-modes-moved to PeripheralKind b) λ p.
+    mandatory-moved k (Peripherals c p) m refl
+feature-moved to limit TRANSITS k m args =
+    one-or-two-moved k _ args λ a b.
+    bind-moved _ (transits-moved to limit a b) λ c.
+    bind-moved _ (optional-modes-moved to DepotMode b) λ p.
+    mandatory-moved k (Transits c p) m refl
+feature-moved to limit LAGTIME k m args = modes-only-moved to LagtimeMode Lagtime k m args λ ms. refl
+feature-moved to limit COVARIATE k m args =
+    three-or-four-moved k _ args λ p c e o.
+    bind-moved _ (operand-moved to p) λ ps.
+    bind-moved _ (operand-moved to c) λ cs.
+    bind-moved _ (modes-moved to CovariateEffect e) λ fs.
+    bind-moved _ (explicit-moved to m e fs) λ es.
+    bind-moved _ (operator-moved to o) λ op.
     stands refl
-feature-raised d limit ALLOMETRY k m args =
-    one-or-two-raised k _ args λ a b.
-    bind-raised _ (name-raised d aWord a) λ c.
-    bind-raised _ (optionally-raised _ b (name-raised d aNumber)) λ r.
-    mandatory-raised k (Allometry c r) m refl
-feature-raised d limit DIRECTEFFECT k m args = modes-only-raised d PdMode DirectEffect k m args λ ms. refl
-feature-raised d limit EFFECTCOMP k m args = modes-only-raised d PdMode EffectComp k m args λ ms. refl
-feature-raised d limit INDIRECTEFFECT k m args =
-    two-raised k _ args λ a b.
-    bind-raised _ (modes-raised d PdMode a) λ ms.
-    bind-raised _ (modes-raised d ProductionMode b) λ ps.
-    mandatory-raised k (IndirectEffect ms ps) m refl
-feature-raised d limit METABOLITE k m args = modes-only-raised d MetaboliteMode Metabolite k m args λ ms. refl
-feature-raised d limit IIV k m args = variability-raised d (Iiv m) k args λ ps es. refl
-feature-raised d limit IOV k m args = variability-raised d (Iov m) k args λ ps es. refl
-feature-raised d limit COVARIANCE k m args =
-    two-raised k _ args λ l p.
-    bind-raised _ (modes-raised d VariabilityLevel l) λ ls.
-    bind-raised _ (operand-raised d p) λ ps.
+feature-moved to limit ALLOMETRY k m args =
+    one-or-two-moved k _ args λ a b.
+    bind-moved _ (name-moved to aWord a) λ c.
+    bind-moved _ (optionally-moved _ b (name-moved to aNumber)) λ r.
+    mandatory-moved k (Allometry c r) m refl
+feature-moved to limit DIRECTEFFECT k m args = modes-only-moved to PdMode DirectEffect k m args λ ms. refl
+feature-moved to limit EFFECTCOMP k m args = modes-only-moved to PdMode EffectComp k m args λ ms. refl
+feature-moved to limit INDIRECTEFFECT k m args =
+    two-moved k _ args λ a b.
+    bind-moved _ (modes-moved to PdMode a) λ ms.
+    bind-moved _ (modes-moved to ProductionMode b) λ ps.
+    mandatory-moved k (IndirectEffect ms ps) m refl
+feature-moved to limit METABOLITE k m args = modes-only-moved to MetaboliteMode Metabolite k m args λ ms. refl
+feature-moved to limit IIV k m args = variability-moved to (Iiv m) k args λ ps es. refl
+feature-moved to limit IOV k m args = variability-moved to (Iov m) k args λ ps es. refl
+feature-moved to limit COVARIANCE k m args =
+    two-moved k _ args λ l p.
+    bind-moved _ (modes-moved to VariabilityLevel l) λ ls.
+    bind-moved _ (operand-moved to p) λ ps.
     stands refl
 
--- The feature of a keyword and raised arguments is the raised feature, or the raised refusal.
-pub build-raised :
-    (d limit : ℕ) (k : Name) (m : Bool) (args : List Arg)
-    → Raises d (raiseFeature d) (buildFeature limit (raiseName d k) m (map (raiseArg d) args)) (buildFeature limit k m args)
+-- The feature of a keyword and moved arguments is the moved feature, or the moved refusal.
+pub build-moved :
+    (to : ℕ → ℕ) (limit : ℕ) (k : Name) (m : Bool) (args : List Arg)
+    → Moves to (moveFeature to) (buildFeature limit (moveName to k) m (map (moveArg to) args)) (buildFeature limit k m args)
 unfolding buildFeature
-build-raised d limit k m args = go (keywordOf (k .spelling))
+build-moved to limit k m args = go (keywordOf (k .spelling))
   where
     go :
         (w : Option Keyword)
-        → Raises d (raiseFeature d) (knownFeature limit w (raiseName d k) m (map (raiseArg d) args)) (knownFeature limit w k m args)
+        → Moves to (moveFeature to) (knownFeature limit w (moveName to k) m (map (moveArg to) args)) (knownFeature limit w k m args)
     go none = falls
-    go (some w) = feature-raised d limit w k m args
+    go (some w) = feature-moved to limit w k m args

@@ -2,6 +2,7 @@ pub mod Bind
 pub mod Arguments
 pub mod Features
 pub mod Steps
+pub mod Moving
 pub mod Raising
 pub mod Accepting
 pub mod Scanning

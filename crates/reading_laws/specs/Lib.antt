@@ -1,3 +1,4 @@
+pub mod Moved
 pub mod Raised
 pub mod Reads
 pub mod WellFormed
