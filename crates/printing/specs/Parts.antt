@@ -10,6 +10,8 @@ use Rattle.forms.specs.declared.Operand.{Operand}
 use Rattle.forms.specs.declared.Operand.the-variants as operand
 use Rattle.forms.specs.declared.Counts.{Counts}
 use Rattle.forms.specs.declared.Counts.the-variants as counts
+use Rattle.forms.specs.declared.Modes.{Modes}
+use Rattle.forms.specs.declared.Modes.the-variants as modes
 use Rattle.forms.specs.Forms.{countOr0}
 use Rattle.forms.specs.Fits.{InText, Listed}
 use Rattle.printing.specs.declared.Entry.{Entry}
@@ -39,3 +41,7 @@ abbrev pub CountsFit : List ℕ → Counts → Type 0
 CountsFit s (counts.Single v) = Unit {0}
 CountsFit s (counts.Range a b) = Unit {0}
 CountsFit s (counts.List is) = Listed s is
+
+abbrev pub ModesFit : List ℕ → Modes → Type 0
+ModesFit s modes.Wildcard = Unit {0}
+ModesFit s (modes.List is) = Listed s is

@@ -1,19 +1,26 @@
 // The parts of a statement, printed: their canonical bytes written into the caller's buffer, and the index behind them.
 ghost use mathlib.Core.Path.{_≡_};
+ghost use mathlib.Core.Bool.{true};
 ghost use mathlib.Core.List.{map};
 ghost use Rattle.tokens.specs.Class.{classTable};
 ghost use Rattle.tokens.specs.Spelling.{spell, spellAll};
+ghost use Rattle.token_laws.specs.Shaped.{all};
+ghost use Rattle.labels.specs.Table.{labelTable};
 ghost use Rattle.reading.specs.Statement.{range, symbol};
-ghost use Rattle.canonical.specs.Canonical.{entryShapes, bracketed, bareOne, itemShape, countsShapes, operandShapes};
+ghost use Rattle.reading_laws.specs.WellFormed.{isPlace};
+ghost use Rattle.canonical.specs.Canonical.{labelShape, itemShape, entryShapes, bracketed, bareOne};
+ghost use Rattle.canonical.specs.Canonical.{modesShapes, countsShapes, operandShapes};
 ghost use Rattle.forms.specs.Items.{nameIn, itemsIn};
-ghost use Rattle.forms.specs.Forms.{countsIn, operandIn};
+ghost use Rattle.forms.specs.Forms.{modesIn, countsIn, operandIn};
 ghost use Rattle.forms.specs.Fits.{InText, Listed};
 ghost use Rattle.writing.specs.Written.{Room, Written};
-ghost use Rattle.printing.specs.Parts.{shapeAs, shapesAs, behindEntry, OperandFits, CountsFit};
+ghost use Rattle.printing.specs.Parts.{shapeAs, shapesAs, behindEntry, OperandFits, CountsFit, ModesFit};
 use forms::Counts;
 use forms::Items;
+use forms::Modes;
 use forms::Name;
 use forms::Operand;
+use labels::Family;
 
 // What an entry of a list is printed as: the name as it is written, or its count.
 pub enum Entry {
@@ -174,5 +181,84 @@ pub fn put_operand(
         Operand::Wildcard => writing::put(out, at, b'*'),
         Operand::Symbol(name) => put_symbol(text, name, out, at),
         Operand::Names(items) => put_names(text, classes, items, out, at),
+    }
+}
+
+// The labels of modes, with a `,` between two.
+fn put_labels(labels: &[u8; 608], family: Family, places: &[u8], out: &mut [u8], at: usize) -> usize
+    requires { ⌜ (now labels ≡ labelTable) × (all (isPlace family) (now places) ≡ true)
+        × Room at (spellAll (entryShapes (map (labelShape family) (now places)))) ⌝ }
+    ensures { λ r. ⌜ Written (now (out .entry)) at
+        (spellAll (entryShapes (map (labelShape family) (now (places .entry)))))
+        (now (out .exit)) r ⌝ }
+{
+    let mut i = 0;
+    let mut next = at;
+    while i < places.len() {
+        let label = labels::mode_label(labels, family, places[i] as usize);
+        next = writing::put_all(out, next, label);
+        next = put_comma(out, next, places.len() - i);
+        i += 1;
+    }
+    next
+}
+
+// The labels of modes in their brackets, or bare if it is one.
+fn put_chosen(labels: &[u8; 608], family: Family, places: &[u8], out: &mut [u8], at: usize) -> usize
+    requires { ⌜ (now labels ≡ labelTable) × (all (isPlace family) (now places) ≡ true)
+        × Room at (spellAll (bareOne (map (labelShape family) (now places)))) ⌝ }
+    ensures { λ r. ⌜ Written (now (out .entry)) at
+        (spellAll (bareOne (map (labelShape family) (now (places .entry)))))
+        (now (out .exit)) r ⌝ }
+{
+    if places.len() == 1 {
+        return put_labels(labels, family, places, out, at);
+    }
+    let first = writing::put(out, at, b'[');
+    let last = put_labels(labels, family, places, out, first);
+    writing::put(out, last, b']')
+}
+
+// The modes of a list, each once.
+fn put_mode_list(
+    text: &[u8],
+    classes: &[u8; 256],
+    labels: &[u8; 608],
+    family: Family,
+    items: Items,
+    out: &mut [u8],
+    at: usize,
+) -> usize
+    requires { ⌜ (now classes ≡ classTable) × (now labels ≡ labelTable) × Listed (now text) items
+        × Room at (spellAll (modesShapes family (modesIn (now text) family (Modes.List items)))) ⌝ }
+    ensures { λ r. ⌜ Written (now (out .entry)) at
+        (spellAll (modesShapes family (modesIn (now (text .entry)) family (Modes.List items))))
+        (now (out .exit)) r ⌝ }
+{
+    let list = lists::modes_of(text, classes, labels, family, items);
+    let places = list.places;
+    let count = list.count;
+    put_chosen(labels, family, &places[..count], out, at)
+}
+
+// Modes: `*`, or the labels of a list.
+pub fn put_modes(
+    text: &[u8],
+    classes: &[u8; 256],
+    labels: &[u8; 608],
+    family: Family,
+    modes: Modes,
+    out: &mut [u8],
+    at: usize,
+) -> usize
+    requires { ⌜ (now classes ≡ classTable) × (now labels ≡ labelTable) × ModesFit (now text) modes
+        × Room at (spellAll (modesShapes family (modesIn (now text) family modes))) ⌝ }
+    ensures { λ r. ⌜ Written (now (out .entry)) at
+        (spellAll (modesShapes family (modesIn (now (text .entry)) family modes)))
+        (now (out .exit)) r ⌝ }
+{
+    match modes {
+        Modes::Wildcard => writing::put(out, at, b'*'),
+        Modes::List(items) => put_mode_list(text, classes, labels, family, items, out, at),
     }
 }
