@@ -57,7 +57,7 @@ map-append f [] ys = refl
 map-append f (x ∷ xs) ys = ap (λ l. f x ∷ l) (map-append f xs ys)
 
 -- a name's bytes are as many as it says
-own-length : (s : List ℕ) (n : Name) → InText s n → length (take (n .length) (drop (n .offset) s)) ≡ n .length
+pub own-length : (s : List ℕ) (n : Name) → InText s n → length (take (n .length) (drop (n .offset) s)) ≡ n .length
 own-length s n h = length-take-le (n .length) (drop (n .offset) s) (simp length-drop (omega arith))
 
 -- a name in the text is the pair of its own entry

@@ -7,8 +7,10 @@ use mathlib.Core.List.{List, [], _∷_, _++_, map}
 use lib.Dec.{leb}
 use lib.ListN.{length, take}
 use Rattle.text.specs.Bytes.{memberOf}
-use Rattle.reading.specs.Statement.{Item}
+use Rattle.tokens.specs.Spelling.{isNumber}
+use Rattle.reading.specs.Statement.{Kind, aWord, aNumber, Item}
 use Rattle.forms.specs.declared.Name.{Name}
+use Rattle.forms.specs.Items.{nameIn}
 use Rattle.lists.specs.declared.ModeList.{ModeList}
 
 -- an entry's pair
@@ -17,6 +19,14 @@ pairOf i = record { offset = i .name .place; length = length (i .name .spelling)
 
 abbrev pub pairsOf : List Item → List Name
 pairsOf is = map pairOf is
+
+-- a name alone does not tell whether it is a word or a number; its spelling does
+abbrev pub kindFor : List ℕ → Kind
+kindFor w = cond (isNumber w) aNumber aWord
+
+-- the entry that a pair stands for in a text
+abbrev pub itemAt : List ℕ → Name → Item
+itemAt s n = record { kind = kindFor (nameIn s n .spelling); name = nameIn s n }
 
 -- each pair ends before the next starts
 abbrev pub sorted : List Name → Bool

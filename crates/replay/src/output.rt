@@ -32,12 +32,17 @@ pub fn put_all(out: &mut [u8], len: usize, bytes: &[u8]) -> usize {
     n
 }
 
-// A space and a number in decimal.
-pub fn put_number(out: &mut [u8], len: usize, number: usize) -> usize {
+// A number in decimal.
+pub fn put_digits(out: &mut [u8], len: usize, number: usize) -> usize {
     let mut digits = [0u8; 20];
     let k = io::decimal(number as u64, &mut digits);
+    put_all(out, len, &digits[..k])
+}
+
+// A space and a number in decimal.
+pub fn put_number(out: &mut [u8], len: usize, number: usize) -> usize {
     let n = put(out, len, b' ');
-    put_all(out, n, &digits[..k])
+    put_digits(out, n, number)
 }
 
 // The digit of a number below 16, in lower case.

@@ -1,6 +1,8 @@
 // One request and its answer.
+use crate::form;
 use crate::output;
 use statements::CountRead;
+use statements::StatementAt;
 use tokens::Cursor;
 use tokens::Lexed;
 use tokens::Scanned;
@@ -13,6 +15,13 @@ ghost use Rattle.tokens.specs.Class.{classTable};
 enum Asked {
     Tokens,
     Count,
+    Statement(usize),
+}
+
+// An index and the offset behind it, or that there is none.
+enum Indexed {
+    Index { index: usize, next: usize },
+    Malformed,
 }
 
 // A text from its hex digits, or that there is none.
@@ -82,6 +91,33 @@ fn begins(line: &[u8], word: &[u8]) -> bool {
         return true;
     }
     line[i] == b' '
+}
+
+// The number from an offset of the line on, and the blank behind it. An index of more than eighteen digits is none.
+fn read_index(line: &[u8], from: usize) -> Indexed {
+    let mut index = 0;
+    let mut i = from;
+    while i < line.len() {
+        let b = line[i];
+        if b == b' ' {
+            if i == from {
+                return Indexed::Malformed;
+            }
+            return Indexed::Index { index, next: i + 1 };
+        }
+        if b < b'0' {
+            return Indexed::Malformed;
+        }
+        if b'9' < b {
+            return Indexed::Malformed;
+        }
+        if 99999999999999999 < index {
+            return Indexed::Malformed;
+        }
+        index = index * 10 + (b - b'0') as usize;
+        i += 1;
+    }
+    Indexed::Malformed
 }
 
 fn malformed(out: &mut [u8], len: usize) -> usize {
@@ -192,10 +228,23 @@ fn answer_count(text: &[u8], out: &mut [u8], len: usize) -> usize {
     }
 }
 
+fn answer_statement(text: &[u8], index: usize, out: &mut [u8], len: usize) -> usize {
+    let value = values::value_at(text, index);
+    let found = value.found;
+    match found {
+        StatementAt::Statement(statement) => {
+            let n = output::put_all(out, len, b"ok");
+            form::put_statement(out, n, value, statement)
+        }
+        StatementAt::Refused(r) => refused(out, len, r.number as usize, r.place),
+    }
+}
+
 fn answer_text(asked: Asked, text: &[u8], out: &mut [u8], len: usize) -> usize {
     match asked {
         Asked::Tokens => answer_tokens(text, out, len),
         Asked::Count => answer_count(text, out, len),
+        Asked::Statement(index) => answer_statement(text, index, out, len),
     }
 }
 
@@ -224,6 +273,14 @@ fn answer_words(line: &[u8], text: &mut [u8], out: &mut [u8], len: usize) -> usi
     }
     if begins(line, b"count") {
         return answer_hex(Asked::Count, line, 6, text, out, len);
+    }
+    if begins(line, b"statement") {
+        return match read_index(line, 10) {
+            Indexed::Malformed => malformed(out, len),
+            Indexed::Index { index, next } => {
+                answer_hex(Asked::Statement(index), line, next, text, out, len)
+            }
+        };
     }
     malformed(out, len)
 }

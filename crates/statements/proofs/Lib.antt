@@ -1,4 +1,3 @@
 pub mod Whole
 pub mod Texts
-pub mod Joining
 pub mod Indexes
