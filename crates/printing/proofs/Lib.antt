@@ -1,0 +1,5 @@
+pub mod Bytes
+pub mod Entries
+pub mod Labels
+pub mod Modes
+pub mod Parts

@@ -1,0 +1,47 @@
+-- What the parts of a statement are printed as, and what is known of them.
+use Prim.Native.Nat.{ℕ, zero, suc}
+use mathlib.Core.List.{List, [], map}
+use Rattle.text.specs.Bytes.{bytes}
+use Rattle.tokens.specs.Token.{Shape}
+use Rattle.counts.specs.Count.{countOf}
+use Rattle.reading.specs.Statement.{Name, Item}
+use Rattle.canonical.specs.Canonical.{nameShape, countShape}
+use Rattle.forms.specs.declared.Operand.{Operand}
+use Rattle.forms.specs.declared.Operand.the-variants as operand
+use Rattle.forms.specs.declared.Counts.{Counts}
+use Rattle.forms.specs.declared.Counts.the-variants as counts
+use Rattle.forms.specs.declared.Modes.{Modes}
+use Rattle.forms.specs.declared.Modes.the-variants as modes
+use Rattle.forms.specs.Forms.{countOr0}
+use Rattle.forms.specs.Fits.{InText, Listed}
+use Rattle.printing.specs.declared.Entry.{Entry}
+use Rattle.printing.specs.declared.Entry.the-variants as entry
+
+-- a name in a list, as what it is printed
+abbrev pub shapeAs : Entry → Name → Shape
+shapeAs entry.Name n = nameShape n
+shapeAs entry.Count n = countShape (countOr0 (countOf 4294967295 (n .spelling)))
+
+abbrev pub shapesAs : Entry → List Item → List Shape
+shapesAs e is = map (λ i. shapeAs e (i .name)) is
+
+-- what stands behind an entry of a list, where so many are left, itself among them
+abbrev pub behindEntry : ℕ → List ℕ
+behindEntry zero = []
+behindEntry (suc zero) = []
+behindEntry (suc (suc n)) = bytes ","
+
+-- its names lie in the text, and its list can be read again
+abbrev pub OperandFits : List ℕ → Operand → Type 0
+OperandFits s operand.Wildcard = Unit {0}
+OperandFits s (operand.Symbol n) = InText s n
+OperandFits s (operand.Names is) = Listed s is
+
+abbrev pub CountsFit : List ℕ → Counts → Type 0
+CountsFit s (counts.Single v) = Unit {0}
+CountsFit s (counts.Range a b) = Unit {0}
+CountsFit s (counts.List is) = Listed s is
+
+abbrev pub ModesFit : List ℕ → Modes → Type 0
+ModesFit s modes.Wildcard = Unit {0}
+ModesFit s (modes.List is) = Listed s is
