@@ -1,7 +1,8 @@
 """What the comparisons of `replay` with the source share: their arguments, the texts, who answers, which texts are left out, the report.
 
-Texts met by 1 or 11 are not compared: the source has no such limits. Our own answer does not settle that: a text refused so that has no
-limit to meet is a difference. N is the number of texts compared, those left out not counted.
+Texts met by 1 or 11 are not compared: the source has no such limits. Our own answer does not settle that: a text that the source accepts must
+be refused so exactly where it is over a limit, and one that it refuses must at least be long enough for one. N is the number of texts
+compared, those left out not counted.
 """
 import pathlib
 import random
@@ -13,12 +14,19 @@ sys.path.insert(0, str(pathlib.Path(__file__).resolve().parent.parent / "replay"
 import judged  # noqa: E402
 from texts import Texts, number_of  # noqa: E402
 
-LONG_ARRAY = re.compile(r"\[[^\[\]]*(?:,[^\[\],]*){64}")
+LONG_ARRAY = re.compile(r"\[(?:[^\[\],]*,){64}")
+COMMENT = re.compile(r"#[^\n]*")
 
 
 def may_meet_a_limit(text):
     """Whether the text is long enough, has statements enough, or an array with entries enough, for 1 or 11."""
     return len(text.encode()) > 16384 or text.count(")") >= 256 or LONG_ARRAY.search(text) is not None
+
+
+def is_over_a_limit(text):
+    """Whether 1 or 11 meets a text that the source accepts: there each statement has one `)`, and commas in brackets part entries."""
+    bare = COMMENT.sub("", text)
+    return len(text.encode()) > 16384 or bare.count(")") > 256 or LONG_ARRAY.search(bare) is not None
 
 
 def hex_of(text):
@@ -71,13 +79,15 @@ class Comparison:
             yield texts
 
     def left_out(self, text, ours, theirs):
-        """Whether the program refuses the text by a limit of its own."""
-        if found(ours) not in ("refused 1", "refused 11"):
-            return False
-        self.kinds["at a limit, not compared"] += 1
-        if not may_meet_a_limit(text):
+        """Whether the program refuses the text by a limit of its own; it is a difference if it should not, or does not and should."""
+        limited = found(ours) in ("refused 1", "refused 11")
+        accepted = theirs.startswith((b"ok", b"refused 20 "))
+        if limited and not (is_over_a_limit if accepted else may_meet_a_limit)(text):
             self.differs(text, "no limit to meet", ours, theirs)
-        return True
+        if accepted and not limited and is_over_a_limit(text):
+            self.differs(text, "over a limit", ours, theirs)
+        self.kinds["at a limit, not compared"] += limited
+        return limited
 
     def differs(self, text, how, ours, theirs):
         self.differences.append((len(text), text, how, ours, theirs))
