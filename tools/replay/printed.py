@@ -1,6 +1,6 @@
 """Requests `print` with their answers: the judge's for texts that the source accepts (those of stated.py, with every form of every argument;
-generated ones; the header comment's; those of Pharmpy's grammar), and each canonical text printed again; refusals with their places and
-what the source does not have, by hand."""
+generated ones; the header comment's; those of Pharmpy's grammar), and each canonical text printed again; refusals with their places,
+limits and texts that the source does not have, by hand."""
 import sys
 
 import counted
@@ -45,8 +45,8 @@ PHARMPY = [
     ("LET(CONTINUOUS,[WT,AGE])\nLET(CATEGORICAL,SEX)\nCOVARIATE?(@IIV,@CONTINUOUS,*)\nCOVARIATE?(@IIV,@CATEGORICAL,cat,+)", None),
 ]
 
-# What the source does not have: its limits are those of document 01, and its texts are UTF-8.
-BEYOND_THE_SOURCE = [
+# Texts that are not UTF-8, which the source cannot be given.
+NOT_UTF8 = [
     (b"# \xff\nlagtime(on) # \x80", b"ok " + b"LAGTIME(ON)".hex().encode()),
     (b"# \xff", b"ok"),
     (b"LAGTIME(ON)\xff", b"refused 2 11"),
@@ -77,7 +77,7 @@ def pairs(program):
 
     within = [text for text, answer in counted.LIMITS if answer.startswith(b"ok")]
     out += [(request(text.encode()), answer) for text, answer in counted.LIMITS if text not in within]
-    out += [(request(text), answer) for text, answer in BEYOND_THE_SOURCE]
+    out += [(request(text), answer) for text, answer in NOT_UTF8]
     out += [(b"print", b"ok")] + [(line, judged.NO_REQUEST) for line in LINES]
 
     accepted = [*within, *counted.ACCEPTED, *stated.texts(), judged.header_space(program), *(text for text, refusal in PHARMPY if not refusal)]
