@@ -13,7 +13,7 @@ use std::fmt::Write as _;
 use std::io::{self, BufRead, BufReader, BufWriter, Write};
 
 use ferx_core::CovariateKind;
-use mfl::{CovariateEffect, CovariateOp, Mfl, Mode};
+use mfl::{Counts, CovariateOp, Feature, Mfl, Mode, Modes, Operand, Statement, TransitCounts};
 use resolve::{CovariateEffectSpec, ModelContext, PkTemplate};
 
 /// Why a request has no `ok` answer.
@@ -62,13 +62,20 @@ fn answer(line: &[u8]) -> Result<String, Fault> {
         ["print", hex] => print(&text_of(hex)?),
         ["tokens"] => tokens(""),
         ["tokens", hex] => tokens(&text_of(hex)?),
+        ["statement", index, hex] => {
+            // As below: the index first.
+            let index = index_of(index)?;
+            statement(index, &text_of(hex)?)
+        }
         ["resolve", hex, context] => {
             // The context first: a malformed request is one whatever its text.
             let context = context_of(context)?;
             resolve_text(&text_of(hex)?, &context)
         }
         [""] => Err(Malformed("empty line")),
-        ["count" | "print" | "tokens" | "resolve", ..] => Err(Malformed("number of parts")),
+        ["count" | "print" | "tokens" | "statement" | "resolve", ..] => {
+            Err(Malformed("number of parts"))
+        }
         _ => Err(Malformed("unknown request")),
     }
 }
@@ -100,6 +107,115 @@ fn tokens(text: &str) -> Result<String, Fault> {
     Ok(out)
 }
 
+fn statement(index: usize, text: &str) -> Result<String, Fault> {
+    let mfl = Mfl::parse(text).map_err(Refused)?;
+    match mfl.statements.get(index) {
+        Some(statement) => Ok(format!(" {}", form_of(statement))),
+        // The number and place of document 01: the source has no such call.
+        None => Err(Refused(format!("20 {index}"))),
+    }
+}
+
+/// A statement's value: its keyword, then what each argument of `build_feature` has become.
+fn form_of(statement: &Statement) -> String {
+    let feature = match statement {
+        Statement::Let { name, values } => return format!("LET {name} {}", list_form(values)),
+        Statement::Feature(feature) => feature,
+    };
+    let fields = match feature {
+        Feature::Absorption(modes) => modes_form(modes),
+        Feature::Elimination(modes) => modes_form(modes),
+        Feature::Peripherals { counts, kind } => {
+            format!("{} {}", counts_form(counts), or_none(kind, modes_form))
+        }
+        Feature::Transits { counts, depot } => {
+            let counts = match counts {
+                TransitCounts::N => "N".to_string(),
+                TransitCounts::Counts(counts) => counts_form(counts),
+            };
+            format!("{counts} {}", or_none(depot, modes_form))
+        }
+        Feature::Lagtime(modes) => modes_form(modes),
+        // `keyword` below has the mark of those with one.
+        Feature::Covariate {
+            optional: _,
+            parameters,
+            covariates,
+            effects,
+            op,
+        } => format!(
+            "{} {} {} {}",
+            operand_form(parameters),
+            operand_form(covariates),
+            modes_form(effects),
+            op.label()
+        ),
+        Feature::Allometry {
+            covariate,
+            reference,
+        } => format!("{covariate} {}", or_none(reference, String::clone)),
+        Feature::DirectEffect(modes) => modes_form(modes),
+        Feature::EffectComp(modes) => modes_form(modes),
+        Feature::IndirectEffect { mode, production } => {
+            format!("{} {}", modes_form(mode), modes_form(production))
+        }
+        Feature::Metabolite(modes) => modes_form(modes),
+        Feature::Iiv {
+            optional: _,
+            parameters,
+            effects,
+        }
+        | Feature::Iov {
+            optional: _,
+            parameters,
+            effects,
+        } => format!("{} {}", operand_form(parameters), modes_form(effects)),
+        Feature::Covariance {
+            optional: _,
+            level,
+            parameters,
+        } => format!("{} {}", modes_form(level), operand_form(parameters)),
+    };
+    format!("{} {fields}", feature.keyword())
+}
+
+/// Modes by their places in the family.
+fn modes_form<M: Mode>(modes: &Modes<M>) -> String {
+    match modes {
+        Modes::Wildcard => "*".to_string(),
+        Modes::List(list) => list_form(list.iter().map(place_of)),
+    }
+}
+
+fn place_of<M: Mode>(mode: &M) -> usize {
+    M::ALL.iter().take_while(|other| *other != mode).count()
+}
+
+fn counts_form(counts: &Counts) -> String {
+    match counts {
+        Counts::Single(count) => count.to_string(),
+        Counts::Range(first, last) => format!("{first}..{last}"),
+        Counts::List(list) => list_form(list),
+    }
+}
+
+fn operand_form(operand: &Operand) -> String {
+    match operand {
+        Operand::Wildcard => "*".to_string(),
+        Operand::Symbol(name) => format!("@{name}"),
+        Operand::Names(names) => list_form(names),
+    }
+}
+
+fn list_form(entries: impl IntoIterator<Item = impl ToString>) -> String {
+    let entries: Vec<String> = entries.into_iter().map(|entry| entry.to_string()).collect();
+    format!("[{}]", entries.join(","))
+}
+
+fn or_none<T>(field: &Option<T>, form: impl Fn(&T) -> String) -> String {
+    field.as_ref().map_or("-".to_string(), form)
+}
+
 fn resolve_text(text: &str, context: &ModelContext) -> Result<String, Fault> {
     let mfl = Mfl::parse(text).map_err(Refused)?;
     let resolved = resolve::resolve(&mfl, context).map_err(Refused)?;
@@ -117,10 +233,7 @@ fn resolve_text(text: &str, context: &ModelContext) -> Result<String, Fault> {
 }
 
 fn effect_of(spec: &CovariateEffectSpec) -> String {
-    let form = CovariateEffect::ALL
-        .iter()
-        .take_while(|form| **form != spec.effect)
-        .count();
+    let form = place_of(&spec.effect);
     let operator = match spec.op {
         CovariateOp::Multiply => 0,
         CovariateOp::Add => 1,
@@ -131,6 +244,16 @@ fn effect_of(spec: &CovariateEffectSpec) -> String {
         spec.covariate,
         u8::from(spec.optional)
     )
+}
+
+/// An index in decimal digits alone; `parse` would take a `+` too.
+fn index_of(digits: &str) -> Result<usize, Fault> {
+    if !digits.bytes().all(|b| b.is_ascii_digit()) {
+        return Err(Malformed("the index is not decimal"));
+    }
+    digits
+        .parse()
+        .map_err(|_| Malformed("the index is not a number of 64 bits"))
 }
 
 /// The context of a request. It is built as it stands: the checks of `ModelContext::from_model` are

@@ -1,12 +1,9 @@
 """Requests `count` with their answers: every fault from 1 to 11 with its place and every limit, written by hand after document 01, and texts
 that are accepted, with the judge's count. Where the source has the limit or the rule too, the judge must refuse what is refused here."""
-import pathlib
 import sys
 
 import judged
-
-sys.path.insert(0, str(judged.HERE.parent / "compare"))
-from texts import Texts, number_of  # noqa: E402
+from texts import Texts, number_of
 
 # Every fault: the text, the number, the place.
 FAULTS = [

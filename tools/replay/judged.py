@@ -7,6 +7,12 @@ import sys
 HERE = pathlib.Path(__file__).resolve().parent
 REPOSITORY = HERE.parent.parent
 
+# The texts and places of the comparisons serve the stored list too.
+sys.path.insert(0, str(HERE.parent / "compare"))
+
+# The program's answer to a line that is no request.
+NO_REQUEST = b"malformed: not a request"
+
 # The judge's words for a character that starts no token. It counts characters.
 BAD_CHARACTER = re.compile(rb"refused MFL: unexpected character `.*` at offset ([0-9]+): expected a feature keyword, ")
 
@@ -26,6 +32,14 @@ def run(program, lines):
     if answers.pop() != b"" or len(answers) != len(lines):
         sys.exit(f"{program}: not one line for each request")
     return answers
+
+
+def header_space(program):
+    """The space that the header comment of mfl.rs shows, from the judge's copy of the source."""
+    lines = (program.parent / "mfl.rs").read_text().split("\n")
+    first = lines.index("//! ```text") + 1
+    last = lines.index("//! ```")
+    return "\n".join(line.removeprefix("//! ") for line in lines[first:last])
 
 
 def tokens_request(text):
