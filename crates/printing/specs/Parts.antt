@@ -13,7 +13,7 @@ use Rattle.forms.specs.declared.Counts.the-variants as counts
 use Rattle.forms.specs.declared.Modes.{Modes}
 use Rattle.forms.specs.declared.Modes.the-variants as modes
 use Rattle.forms.specs.Forms.{countOr0}
-use Rattle.forms.specs.Fits.{InText, Listed}
+use Rattle.forms.specs.Fits.{Listed}
 use Rattle.printing.specs.declared.Entry.{Entry}
 use Rattle.printing.specs.declared.Entry.the-variants as entry
 
@@ -31,10 +31,10 @@ behindEntry zero = []
 behindEntry (suc zero) = []
 behindEntry (suc (suc n)) = bytes ","
 
--- its names lie in the text, and its list can be read again
+-- its list can be read again
 abbrev pub OperandFits : List ℕ → Operand → Type 0
 OperandFits s operand.Wildcard = Unit {0}
-OperandFits s (operand.Symbol n) = InText s n
+OperandFits s (operand.Symbol n) = Unit {0}
 OperandFits s (operand.Names is) = Listed s is
 
 abbrev pub CountsFit : List ℕ → Counts → Type 0

@@ -2,6 +2,7 @@
 ghost use mathlib.Core.Path.{_≡_};
 ghost use mathlib.Core.Bool.{true};
 ghost use mathlib.Core.List.{map};
+ghost use Prim.Native.Nat.{min};
 ghost use Rattle.tokens.specs.Class.{classTable};
 ghost use Rattle.tokens.specs.Spelling.{spell, spellAll};
 ghost use Rattle.token_laws.specs.Shaped.{all};
@@ -28,14 +29,32 @@ pub enum Entry {
     Count,
 }
 
+// The lesser of two numbers.
+fn least(a: usize, b: usize) -> usize
+    ensures { λ r. ⌜ r ≡ min a b ⌝ }
+{
+    if b < a {
+        return b;
+    }
+    a
+}
+
+// A name's bytes, as a part of the text: those of them that the text has.
+fn spelling(text: &[u8], name: Name) -> &[u8]
+    ensures { λ r. ⌜ now r ≡ nameIn (now (text .entry)) name .spelling ⌝ }
+{
+    let start = least(name.offset, text.len());
+    let count = least(name.length, text.len() - start);
+    let end = start + count;
+    &text[start..end]
+}
+
 // A name as it is written.
 pub fn put_name(text: &[u8], name: Name, out: &mut [u8], at: usize) -> usize
-    requires { ⌜ InText (now text) name × Room at (nameIn (now text) name .spelling) ⌝ }
+    requires { ⌜ Room at (nameIn (now text) name .spelling) ⌝ }
     ensures { λ r. ⌜ Written (now (out .entry)) at (nameIn (now (text .entry)) name .spelling) (now (out .exit)) r ⌝ }
 {
-    let start = name.offset;
-    let end = start + name.length;
-    writing::put_all(out, at, &text[start..end])
+    writing::put_all(out, at, spelling(text, name))
 }
 
 // An entry of a list: a name, or a count without leading zeros.
@@ -154,7 +173,7 @@ pub fn put_counts(
 
 // A symbol.
 fn put_symbol(text: &[u8], name: Name, out: &mut [u8], at: usize) -> usize
-    requires { ⌜ InText (now text) name × Room at (spellAll (operandShapes (symbol (nameIn (now text) name)))) ⌝ }
+    requires { ⌜ Room at (spellAll (operandShapes (symbol (nameIn (now text) name)))) ⌝ }
     ensures { λ r. ⌜ Written (now (out .entry)) at
         (spellAll (operandShapes (symbol (nameIn (now (text .entry)) name))))
         (now (out .exit)) r ⌝ }

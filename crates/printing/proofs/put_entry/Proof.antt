@@ -14,7 +14,7 @@ put-name-requires : tie.Need-put-name-requires
 put-name-requires c κs =
     let e = c .before in
     let a = e .before .before .before .before in
-    (a .pre .0, rw (spell-name (nameIn (now (a .args .text)) (a .args .name))) at (rw (e .enum-told .given .1) at (a .pre .1)))
+    rw (spell-name (nameIn (now (a .args .text)) (a .args .name))) at (rw (e .enum-told .given .1) at (a .pre .1))
 
 enum-told-2 : tie.Need-enum-told-2
 enum-told-2 c = search needs

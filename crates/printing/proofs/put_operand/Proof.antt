@@ -24,8 +24,7 @@ put-symbol-requires : tie.Need-put-symbol-requires
 unfolding operandIn
 put-symbol-requires c κs =
     let e = c .before .before in
-    let h = rw (e .operand .given .1) at (e .before .before .before .before .pre) in
-    (h .1, h .2)
+    (rw (e .operand .given .1) at (e .before .before .before .before .pre)) .2
 
 enum-known-operand-2 : tie.Need-enum-known-operand-2
 enum-known-operand-2 c = search needs

@@ -16,7 +16,7 @@ put-name-requires c κs =
     let p = c .before .before .before in
     let a = p .before .before .before .before in
     let n = nameIn (now (a .args .text)) (a .args .name) in
-    (a .pre .0, room-first (n .spelling) [] (a .pre .1) (further (going _ _ _) (p .put .ensures)))
+    room-first (n .spelling) [] (a .pre) (further (going _ _ _) (p .put .ensures))
 
 same-length : tie.Need-same-length
 same-length c = search needs
