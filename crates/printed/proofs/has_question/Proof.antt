@@ -1,0 +1,124 @@
+-- `printed::has_question` meets its contract, variant by variant.
+-- Assumes nothing.
+use borrow.Author.Needs.{needs}
+use mathlib.Core.Path.{ap, sym}
+use Rattle.printed.specs.Calls.{hasQuestion}
+use Rattle.printed.proofs.has_question.Statement.{statement}
+use Rattle.printed.proofs.has_question.Tie as tie
+
+enum-told : tie.Need-enum-told
+enum-told c = search needs
+
+enum-told-2 : tie.Need-enum-told-2
+enum-told-2 c = search needs
+
+enum-told-3 : tie.Need-enum-told-3
+enum-told-3 c = search needs
+
+enum-told-4 : tie.Need-enum-told-4
+enum-told-4 c = search needs
+
+enum-told-5 : tie.Need-enum-told-5
+enum-told-5 c = search needs
+
+enum-known-feature : tie.Need-enum-known-feature
+enum-known-feature c = search needs
+
+enum-told-6 : tie.Need-enum-told-6
+enum-told-6 c = search needs
+
+enum-told-7 : tie.Need-enum-told-7
+enum-told-7 c = search needs
+
+enum-told-8 : tie.Need-enum-told-8
+enum-told-8 c = search needs
+
+enum-told-9 : tie.Need-enum-told-9
+enum-told-9 c = search needs
+
+enum-told-10 : tie.Need-enum-told-10
+enum-told-10 c = search needs
+
+enum-known-feature-2 : tie.Need-enum-known-feature-2
+enum-known-feature-2 c = search needs
+
+enum-known-feature-3 : tie.Need-enum-known-feature-3
+enum-known-feature-3 c = search needs
+
+enum-known-feature-4 : tie.Need-enum-known-feature-4
+enum-known-feature-4 c = search needs
+
+returns : tie.Need-returns
+returns c = search needs
+
+returns-2 : tie.Need-returns-2
+returns-2 c = search needs
+
+returns-3 : tie.Need-returns-3
+returns-3 c = search needs
+
+returns-4 : tie.Need-returns-4
+returns-4 c = search needs
+
+returns-5 : tie.Need-returns-5
+returns-5 c = search needs
+
+returns-6 : tie.Need-returns-6
+returns-6 c = sym (ap hasQuestion (c .before .feature .given .1))
+
+returns-7 : tie.Need-returns-7
+returns-7 c = search needs
+
+returns-8 : tie.Need-returns-8
+returns-8 c = search needs
+
+returns-9 : tie.Need-returns-9
+returns-9 c = search needs
+
+returns-10 : tie.Need-returns-10
+returns-10 c = search needs
+
+returns-11 : tie.Need-returns-11
+returns-11 c = search needs
+
+returns-12 : tie.Need-returns-12
+returns-12 c = sym (ap hasQuestion (c .before .feature2 .given .1))
+
+returns-13 : tie.Need-returns-13
+returns-13 c = sym (ap hasQuestion (c .before .feature3 .given .1))
+
+returns-14 : tie.Need-returns-14
+returns-14 c = sym (ap hasQuestion (c .before .feature4 .given .1))
+
+pub has-question-spec : {M : Type 1} → statement M
+has-question-spec =
+    tie.close
+    (tie.spec
+    enum-told
+    enum-told-2
+    enum-told-3
+    enum-told-4
+    enum-told-5
+    enum-known-feature
+    enum-told-6
+    enum-told-7
+    enum-told-8
+    enum-told-9
+    enum-told-10
+    enum-known-feature-2
+    enum-known-feature-3
+    enum-known-feature-4
+    returns
+    returns-2
+    returns-3
+    returns-4
+    returns-5
+    returns-6
+    returns-7
+    returns-8
+    returns-9
+    returns-10
+    returns-11
+    returns-12
+    returns-13
+    returns-14)
