@@ -1,9 +1,15 @@
-// The calls for programs in other languages. A slice is a pointer and a length.
+// The calls for programs in other languages. A slice is a pointer and a length; an answer is one number (`word`).
 ghost use mathlib.Core.Path.{_≡_};
+ghost use Prim.Native.Nat.{_+_, _*_, _≤_};
 ghost use lib.ListN.{length};
 ghost use Rattle.tokens.specs.Lex.{tokens};
 ghost use Rattle.tokens.specs.Next.{scanned};
+ghost use Rattle.reading.specs.Read.{readText};
+ghost use Rattle.statements.specs.Answers.{counted};
 ghost use Rattle.dumachik.specs.Scan.{strayAt};
+ghost use Rattle.dumachik.specs.Word.{word};
+use forms::Refusal;
+use statements::CountRead;
 use tokens::Scanned;
 
 // The offset of the first byte that starts no token, or the text's length where there is none.
@@ -14,5 +20,23 @@ pub extern "C" fn mfl_scan(text: &[u8]) -> usize
     match tokens::scan_text(text) {
         Scanned::Whole => text.len(),
         Scanned::Stray(at) => at,
+    }
+}
+
+fn refusal_word(refusal: Refusal) -> u64
+    requires { ⌜ refusal .place ≤ 9223372036854775807 ⌝ }
+    ensures { λ r. ⌜ r ≡ refusal .number * 4294967296 + refusal .place ⌝ }
+{
+    refusal.number as u64 * 4294967296 + refusal.place as u64
+}
+
+// Count: the number of statements of a text.
+#[no_mangle]
+pub extern "C" fn mfl_count(text: &[u8]) -> u64
+    ensures { λ r. ⌜ r ≡ word (counted 0 (readText 64 (now (text .entry)))) ⌝ }
+{
+    match statements::count(text) {
+        CountRead::Count(n) => n as u64,
+        CountRead::Refused(refusal) => refusal_word(refusal),
     }
 }

@@ -15,3 +15,4 @@ pub mod WellFeatures
 pub mod WellSteps
 pub mod WellRead
 pub mod WellExamples
+pub mod Within

@@ -1,4 +1,4 @@
-// Answers request lines from standard input, one line each: `tokens HEX`, `count HEX` and `statement INDEX HEX`. A line that is no request is answered too, and stops nothing.
+// Answers request lines from standard input, one line each: `tokens HEX`, `count HEX`, `statement INDEX HEX` and `print HEX`. A line that is no request is answered too, and stops nothing.
 mod form;
 mod input;
 mod output;

@@ -1,6 +1,7 @@
 // One request and its answer.
 use crate::form;
 use crate::output;
+use render::Printed;
 use statements::CountRead;
 use statements::StatementAt;
 use tokens::Cursor;
@@ -16,6 +17,7 @@ enum Asked {
     Tokens,
     Count,
     Statement(usize),
+    Print,
 }
 
 // An index and the offset behind it, or that there is none.
@@ -240,11 +242,28 @@ fn answer_statement(text: &[u8], index: usize, out: &mut [u8], len: usize) -> us
     }
 }
 
+// The canonical text in hex digits. It has more room than any text may have bytes.
+fn answer_print(text: &[u8], out: &mut [u8], len: usize) -> usize {
+    let mut page = io::large_buffer();
+    match render::print(text, &mut page) {
+        Printed::Length(length) => {
+            let n = output::put_all(out, len, b"ok");
+            if length == 0 {
+                return n;
+            }
+            let m = output::put(out, n, b' ');
+            output::put_hex(out, m, &page, 0, length)
+        }
+        Printed::Refused(r) => refused(out, len, r.number as usize, r.place),
+    }
+}
+
 fn answer_text(asked: Asked, text: &[u8], out: &mut [u8], len: usize) -> usize {
     match asked {
         Asked::Tokens => answer_tokens(text, out, len),
         Asked::Count => answer_count(text, out, len),
         Asked::Statement(index) => answer_statement(text, index, out, len),
+        Asked::Print => answer_print(text, out, len),
     }
 }
 
@@ -273,6 +292,9 @@ fn answer_words(line: &[u8], text: &mut [u8], out: &mut [u8], len: usize) -> usi
     }
     if begins(line, b"count") {
         return answer_hex(Asked::Count, line, 6, text, out, len);
+    }
+    if begins(line, b"print") {
+        return answer_hex(Asked::Print, line, 6, text, out, len);
     }
     if begins(line, b"statement") {
         return match read_index(line, 10) {

@@ -193,7 +193,7 @@ fn crowded(token: Token, n: usize) -> Refusal
 }
 
 // The next statement, where `n` were read before.
-fn next_statement(
+pub fn next_statement(
     text: &[u8],
     classes: &[u8; 256],
     labels: &[u8; 608],

@@ -181,7 +181,7 @@ module _ (s : List ℕ) where
       let b = wellOperand (operandIn s p) in
       of-names _ _ _ (operand-listed p (and-right a b e)) (modes-listed VariabilityLevel m (and-left a b e))
 
-  statement-readable : (limit : ℕ) (f : Statement) → wellFormed limit (statementIn s f) ≡ true → Readable s (statementLists f)
+  pub statement-readable : (limit : ℕ) (f : Statement) → wellFormed limit (statementIn s f) ≡ true → Readable s (statementLists f)
   unfolding statementIn statementLists
   statement-readable limit (form.Let n is) e =
       of-names _ _ _ (entries-listed s is (oneTo64 wellItem) refl (and-right (isWord (nameIn s n .spelling)) (oneTo64 wellItem (itemsIn s is)) e)) (none-listed s)

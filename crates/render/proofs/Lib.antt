@@ -1,0 +1,4 @@
+pub mod Pieces
+pub mod Loop
+pub mod Answering
+pub mod Laws

@@ -1,0 +1,118 @@
+-- Printing a text's statements one after the other: what was printed, and what is left.
+-- Assumes nothing.
+use mathlib.Core.Path.{_≡_, refl, _∙_, ap, sym, subst}
+use mathlib.Core.Bool.{Bool, true, false, cond}
+use mathlib.Core.List.{List, [], _∷_, _++_}
+use Prim.Native.Nat.{ℕ, suc, _+_, _≤_}
+use native.Mathlib.Numerals.{add-one}
+use native.Mathlib.Omega.{arith}
+use borrow.Author.Tests.{ltb-false}
+use lib.Dec.{ltb}
+use lib.ListN.{length}
+use Rattle.tokens.specs.Lex.{tokens}
+use Rattle.tokens.specs.Next.{scanned}
+use Rattle.token_laws.specs.Shaped.{all}
+use Rattle.token_laws.proofs.Tests.{and-left, and-right}
+use Rattle.reading.specs.Statement.{Statement}
+use Rattle.reading.specs.Answer.{Answer, accepted, tooLong}
+use Rattle.reading.specs.Read.{between, prepend, readScanned, readText}
+use Rattle.reading_laws.specs.WellFormed.{wellFormed}
+use Rattle.reading_laws.proofs.Accepting.{not-refused}
+use Rattle.reading_laws.proofs.Joining.{text-accepted}
+use Rattle.reading_laws.proofs.WellRead.{text-well-formed}
+use Rattle.canonical.specs.Canonical.{canonical}
+use Rattle.canonical_laws.proofs.Shorter.{not-longer}
+use Rattle.forms.specs.declared.Statement as form
+use Rattle.forms.specs.Forms.{statementIn}
+use Rattle.statements.specs.Answers.{readAt}
+use Rattle.statements.proofs.Indexes.{in-front}
+use Rattle.values.specs.Lists.{statementLists, Readable}
+use Rattle.values.proofs.Readable.{statement-readable}
+use Rattle.writing.specs.Written.{Room, Written}
+use Rattle.writing.proofs.Going.{Going, going, told, further, no-more, room-first}
+use Rattle.render.specs.Text.{Accepted, pieceOf, Prints}
+use Rattle.render.proofs.Pieces.{restOf, canonical-pieces}
+
+-- an accepted text is not too long, and so its canonical text has an index behind it
+pub accepted-short : (limit : ℕ) (s : List ℕ) (ss : List Statement) → readText limit s ≡ accepted ss → length s ≤ 16384
+unfolding readText
+accepted-short limit s ss e = go (ltb 16384 (length s)) refl e
+  where
+    go :
+        (t : Bool)
+        → ltb 16384 (length s) ≡ t
+        → cond t tooLong (readScanned limit (length s) (tokens s) (scanned (tokens s))) ≡ accepted ss
+        → length s ≤ 16384
+    go true h e = absurd (not-refused e)
+    go false h e = ltb-false 16384 (length s) h
+
+pub canonical-short : (limit : ℕ) (s : List ℕ) (ss : List Statement) → readText limit s ≡ accepted ss → Room 0 (canonical ss)
+canonical-short limit s ss e = omega (arith, accepted-short limit s ss e, not-longer limit s ss e)
+
+-- So many statements were printed, and these are left.
+pub record Sofar (limit : ℕ) (s before now : List ℕ) (n cur at : ℕ) : Type 0 where
+  pub statements : List Statement
+  pub left : List Statement
+  pub read : readText limit s ≡ accepted statements
+  pub here : readAt limit s n between cur ≡ accepted left
+  pub well : all (wellFormed limit) left ≡ true
+  pub gone : Going before 0 (canonical statements) now at (restOf n left)
+  pub few : n ≤ cur
+
+pub none-yet : (limit : ℕ) (s before : List ℕ) → Accepted limit s → Sofar limit s before before 0 0 0
+none-yet limit s before a =
+    record {
+      statements = a .statements;
+      left = a .statements;
+      read = a .read;
+      here = text-accepted limit s (a .statements) (a .read);
+      well = text-well-formed limit s (a .statements) (a .read);
+      gone = told (canonical-pieces (a .statements)) (going before 0 (canonical (a .statements)));
+      few = omega arith;
+    }
+
+module _ {limit : ℕ} {s before now : List ℕ} {n cur at : ℕ} (g : Sofar limit s before now n cur at) where
+  -- there is one more
+  module _
+      (f : form.Statement) (p : ℕ)
+      (e : readAt limit s n between cur ≡ prepend (statementIn s f) (readAt limit s (suc n) between p))
+    where
+      rest : (more : List Statement) × (readAt limit s (suc n) between p ≡ accepted more) × (g .left ≡ statementIn s f ∷ more)
+      rest = in-front (statementIn s f) (readAt limit s (suc n) between p) (g .left) (sym e ∙ g .here)
+
+      well-more : all (wellFormed limit) (statementIn s f ∷ rest .0) ≡ true
+      well-more = sym (ap (all (wellFormed limit)) (rest .2)) ∙ g .well
+
+      gone-more : Going before 0 (canonical (g .statements)) now at (pieceOf n (statementIn s f) ++ restOf (suc n) (rest .0))
+      gone-more = told (ap (restOf n) (rest .2)) (g .gone)
+
+      pub next-readable : Readable s (statementLists f)
+      next-readable = statement-readable s limit f (and-left (wellFormed limit (statementIn s f)) _ well-more)
+
+      pub next-room : Room at (pieceOf n (statementIn s f))
+      next-room = room-first (pieceOf n (statementIn s f)) (restOf (suc n) (rest .0)) (canonical-short limit s (g .statements) (g .read)) gone-more
+
+      pub one-more :
+          {now' : List ℕ} {at' : ℕ} → n + 1 ≤ p → Written now at (pieceOf n (statementIn s f)) now' at' → Sofar limit s before now' (n + 1) p at'
+      one-more {now'} {at'} h w =
+          subst (λ (k : ℕ). Sofar limit s before now' k p at') (sym (add-one n))
+          (record {
+            statements = g .statements;
+            left = rest .0;
+            read = g .read;
+            here = rest .1;
+            well = and-right (wellFormed limit (statementIn s f)) _ well-more;
+            gone = further gone-more w;
+            few = omega (arith, add-one n);
+          })
+
+  -- there is none
+  pub all-printed : readAt limit s n between cur ≡ accepted [] → Prints limit s before now at
+  all-printed e ss r =
+      let z : g .left ≡ [] = cc (sym (g .here) ∙ e) in
+      let same : ss ≡ g .statements = cc (sym r ∙ g .read) in
+      rw same (no-more (told (ap (restOf n) z) (g .gone)))
+
+  -- a refusal never comes
+  pub never : (k q : ℕ) {A : Type 0} → readAt limit s n between cur ≡ Answer.refused k q → A
+  never k q e = absurd (not-refused (sym e ∙ g .here))
