@@ -6,9 +6,12 @@ ghost use Rattle.tokens.specs.Lex.{tokens};
 ghost use Rattle.tokens.specs.Next.{scanned};
 ghost use Rattle.reading.specs.Read.{readText};
 ghost use Rattle.statements.specs.Answers.{counted};
+ghost use Rattle.canonical.specs.Print.{printText, fitting, output};
+ghost use Rattle.render.specs.Text.{lengthOf};
 ghost use Rattle.dumachik.specs.Scan.{strayAt};
 ghost use Rattle.dumachik.specs.Word.{word};
 use forms::Refusal;
+use render::Printed;
 use statements::CountRead;
 use tokens::Scanned;
 
@@ -38,5 +41,17 @@ pub extern "C" fn mfl_count(text: &[u8]) -> u64
     match statements::count(text) {
         CountRead::Count(n) => n as u64,
         CountRead::Refused(refusal) => refusal_word(refusal),
+    }
+}
+
+// Print: the canonical text's bytes in `out`, and their number.
+#[no_mangle]
+pub extern "C" fn mfl_print(text: &[u8], out: &mut [u8]) -> u64
+    ensures { λ r. ⌜ r ≡ word (lengthOf (fitting (length (now (out .entry))) (printText 64 (now (text .entry))))) ⌝ }
+    ensures { λ _. ⌜ now (out .exit) ≡ output (fitting (length (now (out .entry))) (printText 64 (now (text .entry)))) (now (out .entry)) ⌝ }
+{
+    match render::print(text, out) {
+        Printed::Length(n) => n as u64,
+        Printed::Refused(refusal) => refusal_word(refusal),
     }
 }
