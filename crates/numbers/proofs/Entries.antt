@@ -71,7 +71,8 @@ module _ {A : Type 0} (xs : List A) (e : length xs ≡ 64) (count size : ℕ) (h
   at-most-64 = omega arith
 
   -- how many there are, and their numbers
-  pub counted-entries : (k : ℕ) (all : List A → List ℕ) → k ∷ length (take count xs) ∷ all (take count xs) ≡ k ∷ size ∷ all (take size xs)
+  pub counted-entries :
+      (k : ℕ) (all : List A → List ℕ) → k ∷ length (take count xs) ∷ all (take count xs) ≡ k ∷ size ∷ all (take size xs)
   counted-entries k all = rw (taken-length, taken)
 
 -- the names of a text
@@ -84,7 +85,8 @@ pub counted-names :
     → (count size : ℕ)
     → size ≡ min count 64
     → namesNumbers (map (nameIn s) (take count ns)) ≡ 7 ∷ size ∷ pairsNumbers (map (nameIn s) (take size ns))
-counted-names s ns e count size h = rw (length-map (take count ns) (nameIn s)) (counted-entries ns e count size h 7 (λ l. pairsNumbers (map (nameIn s) l)))
+counted-names s ns e count size h =
+    rw (length-map (take count ns) (nameIn s)) (counted-entries ns e count size h 7 (λ l. pairsNumbers (map (nameIn s) l)))
 
 -- the names of the values of a LET
 pub names-again : (s : List ℕ) (ns : List Name) → map nameOf (map (itemAt s) ns) ≡ map (nameIn s) ns

@@ -3,3 +3,4 @@ pub mod Entries
 pub mod Whole
 pub mod Small
 pub mod Statements
+pub mod Examples

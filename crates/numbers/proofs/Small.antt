@@ -1,15 +1,15 @@
 -- The numbers of a statement that was read are few, and 32-bit numbers: its lists have at most 64 entries, its modes and counts are small,
 -- and its names lie in the text, since no name is empty.
 -- Assumes nothing.
-use mathlib.Core.Path.{_≡_, refl, _∙_, ap, sym}
-use mathlib.Core.Bool.{Bool, true, false, false≢true, _&&_}
+use mathlib.Core.Path.{_≡_, refl}
+use mathlib.Core.Bool.{Bool, true, false, false≢true}
 use mathlib.Core.List.{List, [], _∷_, _++_, map}
 use mathlib.Core.Option.{Option, some, none}
 use Prim.Native.Nat.{ℕ, suc, _+_, _≤_, _<_}
 use native.Mathlib.Omega.{arith}
 use borrow.Author.Tests.{ltb-true, leb-true, le-leb}
 use lib.Dec.{leb, lit≤}
-use lib.ListN.{length, take, length-append, length-map}
+use lib.ListN.{length, length-append, length-map}
 use Rattle.tokens.specs.Spelling.{isWord, isNumber, isName}
 use Rattle.token_laws.specs.Shaped.{all}
 use Rattle.token_laws.proofs.Tests.{and-left, and-right}
@@ -29,11 +29,12 @@ use Rattle.labels.specs.declared.Family.the-variants.{
 }
 use Rattle.labels.specs.Label.{labelsOf}
 use Rattle.reading.specs.Statement as statement
-use Rattle.reading_laws.specs.WellFormed.{upTo64, oneTo64, spelledAs, wellNamed, wellItem, isPlace, noneTwice, wellModes, withinLimit, wellRange, wellCounts, wellOperand, optional, wellEffects}
+use Rattle.reading_laws.specs.WellFormed.{oneTo64, spelledAs, isPlace, noneTwice, wellModes, withinLimit, wellCounts, optional, wellEffects}
 use Rattle.reading_laws.proofs.Places.{both}
 use Rattle.forms.specs.declared.Name.{Name}
 use Rattle.forms.specs.Items.{nameIn}
-use Rattle.numbers.specs.Numbers.{modesNumbers, countsNumbers, transitsNumbers, pairNumbers, pairsNumbers, namesNumbers, operandNumbers, aloneNumbers, someModesNumbers, someNameNumbers, operatorNumbers, headNumbers}
+use Rattle.numbers.specs.Numbers.{modesNumbers, countsNumbers, pairNumbers, pairsNumbers, namesNumbers}
+use Rattle.numbers.specs.Numbers.{someModesNumbers, operatorNumbers, headNumbers}
 use Rattle.numbers.specs.Ready.{isSmall, Ready}
 use Rattle.numbers.proofs.Pieces.{all-both}
 use Rattle.numbers.proofs.Entries.{name-length}
@@ -44,7 +45,10 @@ pub record Modest (k : ℕ) (ns : List ℕ) : Type 0 where
   pub small : all isSmall ns ≡ true
 
 pub modest-both : {j k : ℕ} {ns ms : List ℕ} → Modest j ns → Modest k ms → Modest (j + k) (ns ++ ms)
-modest-both {ns = ns} {ms = ms} m n = record { few = omega (arith, length-append ns ms, m .few, n .few); small = all-both isSmall ns ms (m .small) (n .small) }
+modest-both {ns = ns} {ms = ms} m n = record {
+  few = omega (arith, length-append ns ms, m .few, n .few);
+  small = all-both isSmall ns ms (m .small) (n .small);
+}
 
 pub modest-first : {k : ℕ} {ns : List ℕ} (n : ℕ) → n ≤ 4294967295 → Modest k ns → Modest (suc k) (n ∷ ns)
 modest-first {ns = ns} n h m = record { few = omega (arith, m .few); small = both (le-leb n 4294967295 h) (m .small) }
@@ -58,7 +62,7 @@ modest-none = record { few = omega arith; small = refl }
 modest-one : (n : ℕ) → n ≤ 4294967295 → Modest 1 (n ∷ [])
 modest-one n h = modest-first n h modest-none
 
-pub modest-ready : {k : ℕ} {ns : List ℕ} → k ≤ 1000 → Modest k ns → Ready 0 ns
+modest-ready : {k : ℕ} {ns : List ℕ} → k ≤ 1000 → Modest k ns → Ready 0 ns
 modest-ready h m = record { room = omega (arith, m .few); small = m .small }
 
 -- a list of at most 64, each small, with its number in front
@@ -140,9 +144,13 @@ counts-modest limit (statement.counts vs) e =
     counted-list 4 vs (lit≤ tt) (at-most (withinLimit limit) vs e)
     (weaker (withinLimit limit) isSmall (count-small limit) vs (each-passes (withinLimit limit) vs e))
 
-pub head-modest : (k : ℕ) (o : Bool) → k ≤ 14 → Modest 2 (headNumbers k o)
+head-modest : (k : ℕ) (o : Bool) → k ≤ 14 → Modest 2 (headNumbers k o)
 head-modest k true h = let l : k ≤ 4294967295 = omega arith in modest-first k l (modest-one 1 (lit≤ tt))
 head-modest k false h = let l : k ≤ 4294967295 = omega arith in modest-first k l (modest-one 0 (lit≤ tt))
+
+-- what stands behind a keyword
+pub headed : {j : ℕ} {ns : List ℕ} (k : ℕ) (o : Bool) → k ≤ 14 → j ≤ 900 → Modest j ns → Ready 0 (headNumbers k o ++ ns)
+headed {j} k o g h m = let l : 2 + j ≤ 1000 = omega arith in modest-ready l (modest-both (head-modest k o g) m)
 
 pub operator-modest : (o : statement.Operator) → Modest 1 (operatorNumbers o)
 operator-modest statement.multiply = modest-one 10 (lit≤ tt)

@@ -24,23 +24,21 @@ module _ (out ns none : List ℕ) (size : ℕ) (measured : Written [] 0 ns none 
   nothing = measured .bytes ∙ patch-empty 0 ns
 
   pub too-short :
-      length (none ++ out) < size
+      length out < size
       → (refused 19 0 ≡ sized (fitting (length out) (accepted ns)))
       × (none ++ out ≡ output (fitting (length out) (accepted ns)) out)
   too-short h =
-      let g : length out < size = rw nothing at h in
       let l : length out < length ns = omega (arith, measured .next) in
       let t = lt-ltb (length out) (length ns) l in
       (rw t, rw (t, nothing))
 
   pub long-enough :
       (after : List ℕ) (r : ℕ)
-      → size ≤ length (none ++ out)
+      → size ≤ length out
       → Written (none ++ out) 0 ns after r
       → (accepted r ≡ sized (fitting (length out) (accepted ns)))
       × (after ≡ output (fitting (length out) (accepted ns)) out)
   long-enough after r h w =
-      let g : size ≤ length out = rw nothing at h in
       let l : length ns ≤ length out = omega (arith, measured .next) in
       let t = le-ltb (length out) (length ns) l in
       let e : r ≡ length ns = omega (arith, w .next) in

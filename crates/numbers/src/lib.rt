@@ -14,8 +14,8 @@ ghost use Rattle.lists.specs.Lists.{chosen};
 ghost use Rattle.values.specs.Value.{modesWith, someModesWith, countsWith, transitsWith, operandWith, featureWith, statementWith};
 ghost use Rattle.writing.specs.Written.{Written};
 ghost use Rattle.numbers.specs.Numbers.{pairNumbers, pairsNumbers, namesNumbers, modesNumbers, someModesNumbers};
-ghost use Rattle.numbers.specs.Numbers.{countsNumbers, transitsNumbers, operandNumbers, aloneNumbers, someNameNumbers, operatorNumbers};
-ghost use Rattle.numbers.specs.Numbers.{headNumbers, featureNumbers, numbersOf};
+ghost use Rattle.numbers.specs.Numbers.{countsNumbers, transitsNumbers, operandNumbers, aloneNumbers, someNameNumbers};
+ghost use Rattle.numbers.specs.Numbers.{operatorNumbers, headNumbers, featureNumbers, numbersOf};
 ghost use Rattle.numbers.specs.Ready.{Ready};
 ghost use Rattle.numbers.specs.Answers.{numbersIn, sized, numbersAs};
 use forms::Counts;
@@ -90,7 +90,9 @@ fn put_name(text: &[u8], name: Name, out: &mut [u32], at: usize) -> usize
 // The names of an array, so many.
 fn put_pairs(text: &[u8], pairs: [Name; 64], count: usize, out: &mut [u32], at: usize) -> usize
     requires { ⌜ (count ≤ 64) × Ready at (pairsNumbers (map (nameIn (now text)) (take count pairs))) ⌝ }
-    ensures { λ r. ⌜ Written (now (out .entry)) at (pairsNumbers (map (nameIn (now (text .entry))) (take count pairs))) (now (out .exit)) r ⌝ }
+    ensures { λ r. ⌜ Written (now (out .entry)) at
+        (pairsNumbers (map (nameIn (now (text .entry))) (take count pairs)))
+        (now (out .exit)) r ⌝ }
 {
     let mut i = 0;
     let mut next = at;
@@ -104,7 +106,9 @@ fn put_pairs(text: &[u8], pairs: [Name; 64], count: usize, out: &mut [u32], at: 
 // A list of names.
 fn put_names(text: &[u8], pairs: [Name; 64], count: usize, out: &mut [u32], at: usize) -> usize
     requires { ⌜ Ready at (namesNumbers (map (nameIn (now text)) (take count pairs))) ⌝ }
-    ensures { λ r. ⌜ Written (now (out .entry)) at (namesNumbers (map (nameIn (now (text .entry))) (take count pairs))) (now (out .exit)) r ⌝ }
+    ensures { λ r. ⌜ Written (now (out .entry)) at
+        (namesNumbers (map (nameIn (now (text .entry))) (take count pairs)))
+        (now (out .exit)) r ⌝ }
 {
     let size = up_to_64(count);
     let next = put_two(out, at, 7, size);
@@ -230,7 +234,9 @@ fn put_operand(
     at: usize,
 ) -> usize
     requires { ⌜ Ready at (operandNumbers (operandWith (now text) pairs operand)) ⌝ }
-    ensures { λ r. ⌜ Written (now (out .entry)) at (operandNumbers (operandWith (now (text .entry)) pairs operand)) (now (out .exit)) r ⌝ }
+    ensures { λ r. ⌜ Written (now (out .entry)) at
+        (operandNumbers (operandWith (now (text .entry)) pairs operand))
+        (now (out .exit)) r ⌝ }
 {
     match operand {
         Operand::Wildcard => put(out, at, 0),
@@ -274,7 +280,9 @@ fn put_head(keyword: usize, optional: bool, out: &mut [u32], at: usize) -> usize
 // A feature of modes alone.
 fn put_plain(keyword: usize, modes: Modes, list: ModeList, out: &mut [u32], at: usize) -> usize
     requires { ⌜ Ready at (headNumbers keyword false ++ modesNumbers (modesWith list modes)) ⌝ }
-    ensures { λ r. ⌜ Written (now (out .entry)) at (headNumbers keyword false ++ modesNumbers (modesWith list modes)) (now (out .exit)) r ⌝ }
+    ensures { λ r. ⌜ Written (now (out .entry)) at
+        (headNumbers keyword false ++ modesNumbers (modesWith list modes))
+        (now (out .exit)) r ⌝ }
 {
     let next = put_head(keyword, false, out, at);
     put_modes(modes, list, out, next)
@@ -359,7 +367,8 @@ fn put_covariate(
     out: &mut [u32],
     at: usize,
 ) -> usize
-    requires { ⌜ Ready at (featureNumbers (featureWith (now text) value (Feature.Covariate optional parameters covariates effects op))) ⌝ }
+    requires { ⌜ Ready at
+        (featureNumbers (featureWith (now text) value (Feature.Covariate optional parameters covariates effects op))) ⌝ }
     ensures { λ r. ⌜ Written (now (out .entry)) at
         (featureNumbers (featureWith (now (text .entry)) value (Feature.Covariate optional parameters covariates effects op)))
         (now (out .exit)) r ⌝ }
@@ -399,7 +408,8 @@ fn put_indirect(
     out: &mut [u32],
     at: usize,
 ) -> usize
-    requires { ⌜ Ready at (headNumbers 9 false ++ (modesNumbers (modesWith list mode) ++ modesNumbers (modesWith second production))) ⌝ }
+    requires { ⌜ Ready at (headNumbers 9 false
+        ++ (modesNumbers (modesWith list mode) ++ modesNumbers (modesWith second production))) ⌝ }
     ensures { λ r. ⌜ Written (now (out .entry)) at
         (headNumbers 9 false ++ (modesNumbers (modesWith list mode) ++ modesNumbers (modesWith second production)))
         (now (out .exit)) r ⌝ }
@@ -433,7 +443,9 @@ fn put_covariance(
 
 fn put_feature(text: &[u8], value: Value, feature: Feature, out: &mut [u32], at: usize) -> usize
     requires { ⌜ Ready at (featureNumbers (featureWith (now text) value feature)) ⌝ }
-    ensures { λ r. ⌜ Written (now (out .entry)) at (featureNumbers (featureWith (now (text .entry)) value feature)) (now (out .exit)) r ⌝ }
+    ensures { λ r. ⌜ Written (now (out .entry)) at
+        (featureNumbers (featureWith (now (text .entry)) value feature))
+        (now (out .exit)) r ⌝ }
 {
     let pairs = value.names;
     let values = value.counts;
@@ -548,7 +560,9 @@ fn put_statement(
     at: usize,
 ) -> usize
     requires { ⌜ Ready at (numbersOf (statementWith (now text) value statement)) ⌝ }
-    ensures { λ r. ⌜ Written (now (out .entry)) at (numbersOf (statementWith (now (text .entry)) value statement)) (now (out .exit)) r ⌝ }
+    ensures { λ r. ⌜ Written (now (out .entry)) at
+        (numbersOf (statementWith (now (text .entry)) value statement))
+        (now (out .exit)) r ⌝ }
 {
     let pairs = value.names;
     match statement {
@@ -566,13 +580,15 @@ pub enum NumbersAt {
 // A statement's numbers if there is room for all of them.
 fn put_whole(text: &[u8], value: Value, statement: Statement, out: &mut [u32]) -> NumbersAt
     requires { ⌜ Ready 0 (numbersOf (statementWith (now text) value statement)) ⌝ }
-    ensures { λ r. ⌜ (numbersAs r ≡ sized (fitting (length (now (out .entry))) (accepted (numbersOf (statementWith (now (text .entry)) value statement)))))
+    ensures { λ r. ⌜ (numbersAs r ≡ sized
+        (fitting (length (now (out .entry))) (accepted (numbersOf (statementWith (now (text .entry)) value statement)))))
         × (now (out .exit) ≡ output
         (fitting (length (now (out .entry))) (accepted (numbersOf (statementWith (now (text .entry)) value statement))))
         (now (out .entry))) ⌝ }
 {
+    let room = out.len();
     let size = put_statement(text, value, statement, &mut out[..0], 0);
-    if out.len() < size {
+    if room < size {
         return NumbersAt::Refused(Refusal {
             number: 19,
             place: 0,
@@ -581,7 +597,8 @@ fn put_whole(text: &[u8], value: Value, statement: Statement, out: &mut [u32]) -
     NumbersAt::Count(put_statement(text, value, statement, out, 0))
 }
 
-// The numbers of the statement of a text at an index, in front of the buffer, and how many there are; or why it is refused, and a buffer as it was.
+// The numbers of the statement of a text at an index, in front of the buffer, and how many they are; or why it is refused, and nothing is
+// written.
 pub fn statement_numbers(text: &[u8], index: u32, out: &mut [u32]) -> NumbersAt
     ensures { λ r. ⌜ (numbersAs r ≡ sized (fitting (length (now (out .entry))) (numbersIn (now (text .entry)) index)))
         × (now (out .exit) ≡ output (fitting (length (now (out .entry))) (numbersIn (now (text .entry)) index)) (now (out .entry))) ⌝ }

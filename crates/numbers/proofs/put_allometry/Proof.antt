@@ -15,17 +15,19 @@ use Rattle.numbers.proofs.put_allometry.Tie as tie
 put-head-requires : tie.Need-put-head-requires
 put-head-requires c κs =
     let a = c .before .before .before in
-    let s = now (a .args .text) in
-    ready-first (headNumbers 6 false) (aloneNumbers (nameIn s (a .args .covariate)) ++ (someNameNumbers (someNameIn s (a .args .reference))))
-    (a .pre) (going (now (a .args .out)) _ _)
+    let x = a .args in
+    let s = now (x .text) in
+    ready-first (headNumbers 6 false) (aloneNumbers (nameIn s (x .covariate)) ++ (someNameNumbers (someNameIn s (x .reference)))) (a .pre)
+    (going (now (x .out)) _ _)
 
 put-named-requires : tie.Need-put-named-requires
 put-named-requires c κs =
     let p = c .before .before .before in
     let a = p .before .before .before .before in
-    let s = now (a .args .text) in
-    ready-first (aloneNumbers (nameIn s (a .args .covariate))) (someNameNumbers (someNameIn s (a .args .reference)))
-    (a .pre) (further (going _ _ _) (p .put-head .ensures))
+    let x = a .args in
+    let s = now (x .text) in
+    ready-first (aloneNumbers (nameIn s (x .covariate))) (someNameNumbers (someNameIn s (x .reference))) (a .pre)
+    (further (going _ _ _) (p .put-head .ensures))
 
 put-some-name-requires : tie.Need-put-some-name-requires
 put-some-name-requires c κs =

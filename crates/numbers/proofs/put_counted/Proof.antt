@@ -14,15 +14,18 @@ use Rattle.numbers.proofs.put_counted.Tie as tie
 put-head-requires : tie.Need-put-head-requires
 put-head-requires c κs =
     let a = c .before .before in
-    ready-first (headNumbers (a .args .keyword) false) (transitsNumbers (transitsWith (a .args .values) (a .args .counts)) ++ (someModesNumbers (someModesWith (a .args .list) (a .args .modes))))
-    (a .pre) (going (now (a .args .out)) _ _)
+    let x = a .args in
+    ready-first (headNumbers (x .keyword) false)
+    (transitsNumbers (transitsWith (x .values) (x .counts)) ++ (someModesNumbers (someModesWith (x .list) (x .modes)))) (a .pre)
+    (going (now (x .out)) _ _)
 
 put-transits-requires : tie.Need-put-transits-requires
 put-transits-requires c κs =
     let p = c .before .before .before in
     let a = p .before .before .before in
-    ready-first (transitsNumbers (transitsWith (a .args .values) (a .args .counts))) (someModesNumbers (someModesWith (a .args .list) (a .args .modes)))
-    (a .pre) (further (going _ _ _) (p .put-head .ensures))
+    let x = a .args in
+    ready-first (transitsNumbers (transitsWith (x .values) (x .counts))) (someModesNumbers (someModesWith (x .list) (x .modes))) (a .pre)
+    (further (going _ _ _) (p .put-head .ensures))
 
 put-some-modes-requires : tie.Need-put-some-modes-requires
 put-some-modes-requires c κs =
@@ -38,7 +41,8 @@ returns : tie.Need-returns
 returns c =
     let q = c .before .before .before .before .before .before in
     let p = q .before .before .before .before in
-    finished (further (further (going _ _ _) (p .put-head .ensures)) (q .put-transits .ensures)) (c .before .before .put-some-modes .ensures)
+    finished (further (further (going _ _ _) (p .put-head .ensures)) (q .put-transits .ensures))
+    (c .before .before .put-some-modes .ensures)
 
 pub put-counted-spec : {M : Type 1} → statement M
 put-counted-spec =

@@ -13,17 +13,20 @@ use Rattle.numbers.proofs.put_covariance.Tie as tie
 put-head-requires : tie.Need-put-head-requires
 put-head-requires c κs =
     let a = c .before .before .before in
-    let s = now (a .args .text) in
-    ready-first (headNumbers 13 (a .args .optional)) (modesNumbers (modesWith (a .args .list) (a .args .level)) ++ (operandNumbers (operandWith s (a .args .pairs) (a .args .parameters))))
-    (a .pre) (going (now (a .args .out)) _ _)
+    let x = a .args in
+    let s = now (x .text) in
+    ready-first (headNumbers 13 (x .optional))
+    (modesNumbers (modesWith (x .list) (x .level)) ++ (operandNumbers (operandWith s (x .pairs) (x .parameters)))) (a .pre)
+    (going (now (x .out)) _ _)
 
 put-modes-requires : tie.Need-put-modes-requires
 put-modes-requires c κs =
     let p = c .before .before .before in
     let a = p .before .before .before .before in
-    let s = now (a .args .text) in
-    ready-first (modesNumbers (modesWith (a .args .list) (a .args .level))) (operandNumbers (operandWith s (a .args .pairs) (a .args .parameters)))
-    (a .pre) (further (going _ _ _) (p .put-head .ensures))
+    let x = a .args in
+    let s = now (x .text) in
+    ready-first (modesNumbers (modesWith (x .list) (x .level))) (operandNumbers (operandWith s (x .pairs) (x .parameters))) (a .pre)
+    (further (going _ _ _) (p .put-head .ensures))
 
 put-operand-requires : tie.Need-put-operand-requires
 put-operand-requires c κs =

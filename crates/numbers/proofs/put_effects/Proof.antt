@@ -14,16 +14,18 @@ use Rattle.numbers.proofs.put_effects.Tie as tie
 put-operand-requires : tie.Need-put-operand-requires
 put-operand-requires c κs =
     let a = c .before .before .before in
-    let s = now (a .args .text) in
-    ready-first (operandNumbers (operandWith s (a .args .pairs) (a .args .covariates))) (modesNumbers (modesWith (a .args .list) (a .args .effects)) ++ (operatorNumbers (opAs (a .args .op))))
-    (a .pre) (going (now (a .args .out)) _ _)
+    let x = a .args in
+    let s = now (x .text) in
+    ready-first (operandNumbers (operandWith s (x .pairs) (x .covariates)))
+    (modesNumbers (modesWith (x .list) (x .effects)) ++ (operatorNumbers (opAs (x .op)))) (a .pre) (going (now (x .out)) _ _)
 
 put-modes-requires : tie.Need-put-modes-requires
 put-modes-requires c κs =
     let p = c .before .before .before in
     let a = p .before .before .before .before in
-    ready-first (modesNumbers (modesWith (a .args .list) (a .args .effects))) (operatorNumbers (opAs (a .args .op)))
-    (a .pre) (further (going _ _ _) (p .put-operand .ensures))
+    let x = a .args in
+    ready-first (modesNumbers (modesWith (x .list) (x .effects))) (operatorNumbers (opAs (x .op))) (a .pre)
+    (further (going _ _ _) (p .put-operand .ensures))
 
 put-op-requires : tie.Need-put-op-requires
 put-op-requires c κs =

@@ -14,15 +14,18 @@ use Rattle.numbers.proofs.put_indirect.Tie as tie
 put-head-requires : tie.Need-put-head-requires
 put-head-requires c κs =
     let a = c .before .before in
-    ready-first (headNumbers 9 false) (modesNumbers (modesWith (a .args .list) (a .args .mode)) ++ (modesNumbers (modesWith (a .args .second) (a .args .production))))
-    (a .pre) (going (now (a .args .out)) _ _)
+    let x = a .args in
+    ready-first (headNumbers 9 false)
+    (modesNumbers (modesWith (x .list) (x .mode)) ++ (modesNumbers (modesWith (x .second) (x .production)))) (a .pre)
+    (going (now (x .out)) _ _)
 
 put-modes-requires : tie.Need-put-modes-requires
 put-modes-requires c κs =
     let p = c .before .before .before in
     let a = p .before .before .before in
-    ready-first (modesNumbers (modesWith (a .args .list) (a .args .mode))) (modesNumbers (modesWith (a .args .second) (a .args .production)))
-    (a .pre) (further (going _ _ _) (p .put-head .ensures))
+    let x = a .args in
+    ready-first (modesNumbers (modesWith (x .list) (x .mode))) (modesNumbers (modesWith (x .second) (x .production))) (a .pre)
+    (further (going _ _ _) (p .put-head .ensures))
 
 put-modes-requires-2 : tie.Need-put-modes-requires-2
 put-modes-requires-2 c κs =

@@ -15,17 +15,20 @@ use Rattle.numbers.proofs.put_let.Tie as tie
 put-head-requires : tie.Need-put-head-requires
 put-head-requires c κs =
     let a = c .before .before .before in
-    let s = now (a .args .text) in
-    ready-first (headNumbers 14 false) (aloneNumbers (nameIn s (a .args .name)) ++ (namesNumbers (map (nameIn s) (take (a .args .values .count) (a .args .pairs)))))
-    (a .pre) (going (now (a .args .out)) _ _)
+    let x = a .args in
+    let s = now (x .text) in
+    ready-first (headNumbers 14 false)
+    (aloneNumbers (nameIn s (x .name)) ++ (namesNumbers (map (nameIn s) (take (x .values .count) (x .pairs))))) (a .pre)
+    (going (now (x .out)) _ _)
 
 put-named-requires : tie.Need-put-named-requires
 put-named-requires c κs =
     let p = c .before .before .before in
     let a = p .before .before .before .before in
-    let s = now (a .args .text) in
-    ready-first (aloneNumbers (nameIn s (a .args .name))) (namesNumbers (map (nameIn s) (take (a .args .values .count) (a .args .pairs))))
-    (a .pre) (further (going _ _ _) (p .put-head .ensures))
+    let x = a .args in
+    let s = now (x .text) in
+    ready-first (aloneNumbers (nameIn s (x .name))) (namesNumbers (map (nameIn s) (take (x .values .count) (x .pairs)))) (a .pre)
+    (further (going _ _ _) (p .put-head .ensures))
 
 put-names-requires : tie.Need-put-names-requires
 put-names-requires c κs =

@@ -13,9 +13,9 @@ use Rattle.numbers.proofs.put_named.Tie as tie
 put-requires : tie.Need-put-requires
 put-requires c κs =
     let a = c .before .before .before in
-    let s = now (a .args .text) in
-    ready-first (a .args .kind ∷ []) (pairNumbers (nameIn s (a .args .name)))
-    (a .pre) (going (now (a .args .out)) _ _)
+    let x = a .args in
+    let s = now (x .text) in
+    ready-first (x .kind ∷ []) (pairNumbers (nameIn s (x .name))) (a .pre) (going (now (x .out)) _ _)
 
 put-name-requires : tie.Need-put-name-requires
 put-name-requires c κs =

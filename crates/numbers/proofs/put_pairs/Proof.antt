@@ -1,8 +1,8 @@
 -- `numbers::put_pairs` meets its contract. The invariant: what is left to be written are the names that are left.
 -- Assumes nothing.
 use mathlib.Core.Path.{_≡_}
-use mathlib.Core.List.{map}
-use Prim.Native.Nat.{_-_, _≤_}
+use mathlib.Core.List.{List, map}
+use Prim.Native.Nat.{ℕ, _-_, _≤_}
 use native.Mathlib.Omega.{arith}
 use borrow.Author.Needs.{needs}
 use denote.Ref.{now}
@@ -16,10 +16,12 @@ use Rattle.numbers.proofs.Entries.{names-each, none-left, entry-ready, 
 use Rattle.numbers.proofs.put_pairs.Statement.{statement}
 use Rattle.numbers.proofs.put_pairs.Tie as tie
 
+abbrev namesOf : List ℕ → List Name → List ℕ
+namesOf s ns = pairsNumbers (map (nameIn s) ns)
+
 abbrev Inv-loop : tie.InvT-loop
 Inv-loop text count out₀ at pairs i₀ next₀ out i next =
-    (i ≤ count)
-    × Going out₀ at (pairsNumbers (map (nameIn text) (take count pairs))) out next (pairsNumbers (map (nameIn text) (drop i (take count pairs))))
+    (i ≤ count) × Going out₀ at (namesOf text (take count pairs)) out next (namesOf text (drop i (take count pairs)))
 
 abbrev μ-loop : tie.MeasureT-loop
 μ-loop text count out₀ at pairs i₀ next₀ out i next = count - i
@@ -38,7 +40,9 @@ abbrev none : Name
 none = record { offset = 0; length = 0 }
 
 -- so many names are there
-taken : (c : tie.At-loop Inv-loop μ-loop) → length (take (c .before .before .before .args .count) (c .before .before .before .args .t2)) ≡ c .before .before .before .args .count
+taken :
+    (c : tie.At-loop Inv-loop μ-loop)
+    → (let x = c .before .before .before .args in length (take (x .count) (x .t2)) ≡ x .count)
 taken c =
     let a = c .before .before .before in
     let h : a .args .count ≤ length (a .args .t2) = search needs in
@@ -51,7 +55,8 @@ put-name-requires c κs =
     let s = now (a .args .text) in
     let t = c .before .before .loop-test .taken in
     rw (getD-take (a .args .count) (a .args .t2) (l .loop .i) none t)
-    at (entry-ready (names-each s) (take (a .args .count) (a .args .t2)) (l .loop .i) none (rw (taken l) t) (l .loop .inv .1) (a .pre .1))
+    at
+    (entry-ready (names-each s) (take (a .args .count) (a .args .t2)) (l .loop .i) none (rw (taken l) t) (l .loop .inv .1) (a .pre .1))
 
 add-i : tie.Need-add-i Inv-loop μ-loop
 add-i c = omega arith
@@ -66,7 +71,8 @@ loop-again c =
     let a = l .before .before .before in
     let s = now (a .args .text) in (
       omega arith,
-      entry-put (names-each s) (take (a .args .count) (a .args .t2)) (l .loop .i) none (rw (taken l) (t .loop-test .taken)) (l .loop .inv .1)
+      entry-put (names-each s) (take (a .args .count) (a .args .t2)) (l .loop .i) none (rw (taken l) (t .loop-test .taken))
+          (l .loop .inv .1)
           (rw (getD-take (a .args .count) (a .args .t2) (l .loop .i) none (t .loop-test .taken)) (c .before .before .put-name .ensures)),
     )
 
@@ -77,7 +83,8 @@ returns : tie.Need-returns Inv-loop μ-loop
 returns c =
     let l = c .before in
     let a = l .before .before .before in
-    none-left (names-each (now (a .args .text))) (take (a .args .count) (a .args .t2)) (l .loop .i) (rw (taken l) (c .loop-test .left)) (l .loop .inv .1)
+    none-left (names-each (now (a .args .text))) (take (a .args .count) (a .args .t2)) (l .loop .i) (rw (taken l) (c .loop-test .left))
+    (l .loop .inv .1)
 
 pub put-pairs-spec : {M : Type 1} → statement M
 put-pairs-spec =

@@ -13,8 +13,8 @@ use Rattle.numbers.proofs.put_plain.Tie as tie
 put-head-requires : tie.Need-put-head-requires
 put-head-requires c κs =
     let a = c .before .before in
-    ready-first (headNumbers (a .args .keyword) false) (modesNumbers (modesWith (a .args .list) (a .args .modes)))
-    (a .pre) (going (now (a .args .out)) _ _)
+    let x = a .args in
+    ready-first (headNumbers (x .keyword) false) (modesNumbers (modesWith (x .list) (x .modes))) (a .pre) (going (now (x .out)) _ _)
 
 put-modes-requires : tie.Need-put-modes-requires
 put-modes-requires c κs =

@@ -11,8 +11,8 @@ use Rattle.numbers.proofs.put_range.Tie as tie
 put-requires : tie.Need-put-requires
 put-requires c κs =
     let a = c .before .before in
-    ready-first (3 ∷ []) (a .args .low ∷ a .args .high ∷ [])
-    (a .pre) (going (now (a .args .out)) _ _)
+    let x = a .args in
+    ready-first (3 ∷ []) (x .low ∷ x .high ∷ []) (a .pre) (going (now (x .out)) _ _)
 
 put-two-requires : tie.Need-put-two-requires
 put-two-requires c κs =

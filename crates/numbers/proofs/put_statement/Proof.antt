@@ -34,8 +34,8 @@ same-length c = search needs
 returns : tie.Need-returns
 returns c =
     let e = c .before .before .before .before .before in
-    let a = e .before .before .before .before .before in
-    rw (e .statement .given .1, let-numbers (now (a .args .text)) (a .args .value) (e .statement .given .0 .0) (e .statement .given .0 .1 .0))
+    let x = e .before .before .before .before .before .args in
+    rw (e .statement .given .1, let-numbers (now (x .text)) (x .value) (e .statement .given .0 .0) (e .statement .given .0 .1 .0))
     (c .before .before .put-let .ensures)
 
 same-length-2 : tie.Need-same-length-2

@@ -1,7 +1,9 @@
 -- `numbers::put_whole` meets its contract: the numbers are counted, compared with the room, and written.
 -- Assumes nothing.
+use mathlib.Core.Path.{sym}
 use borrow.Author.Needs.{needs}
 use denote.Ref.{now}
+use lib.Seq.{length-take-le}
 use Rattle.values.specs.Value.{statementWith}
 use Rattle.numbers.specs.Numbers.{numbersOf}
 use Rattle.numbers.specs.Answers.{numbersAs}
@@ -13,7 +15,8 @@ slice-relend-prefix-put-statement : tie.Need-slice-relend-prefix-put-statement
 slice-relend-prefix-put-statement c = search needs
 
 slice-aggregate-put-statement : tie.Need-slice-aggregate-put-statement
-slice-aggregate-put-statement c = search needs
+slice-aggregate-put-statement c =
+    sym (length-take-le _ (now (c .before .before .before .args .out)) (slice-relend-prefix-put-statement (c .before)))
 
 put-statement-requires : tie.Need-put-statement-requires
 put-statement-requires c κs = search needs

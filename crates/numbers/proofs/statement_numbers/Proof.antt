@@ -25,8 +25,10 @@ enum-known-found c = search needs
 -- the statement that was found
 whole :
     (c : tie.After-found)
-    → accepted (statementWith (now (c .before .before .before .before .before .args .text)) (c .before .before .value-at .result) (c .found .given .0 .0))
-    ≡ nthOf (c .before .before .before .before .before .args .index) (readText 64 (now (c .before .before .before .before .before .args .text)))
+    → (let k = c .before .before in
+    let x = k .before .before .before .args in
+    accepted (statementWith (now (x .text)) (k .value-at .result) (c .found .given .0 .0))
+    ≡ nthOf (x .index) (readText 64 (now (x .text))))
 whole c =
     let k = c .before .before in
     let a = k .before .before .before .args in
