@@ -47,6 +47,7 @@ fn put(out: &mut [u32], at: usize, number: usize) -> usize
     next
 }
 
+// One number and another.
 fn put_two(out: &mut [u32], at: usize, first: usize, second: usize) -> usize
     requires { ⌜ Ready at (first ∷ second ∷ []) ⌝ }
     ensures { λ r. ⌜ Written (now (out .entry)) at (first ∷ second ∷ []) (now (out .exit)) r ⌝ }
@@ -55,7 +56,7 @@ fn put_two(out: &mut [u32], at: usize, first: usize, second: usize) -> usize
     put(out, next, second)
 }
 
-// How many bytes of a text a name has: none past the text's end.
+// How many bytes of a text a name has: none past the text's end, where what a value stands for has none either.
 fn length_in(text: &[u8], name: Name) -> usize
     ensures { λ r. ⌜ r ≡ length (nameIn (now (text .entry)) name .spelling) ⌝ }
 {
@@ -115,6 +116,7 @@ fn put_names(text: &[u8], pairs: [Name; 64], count: usize, out: &mut [u32], at: 
     put_pairs(text, pairs, size, out, next)
 }
 
+// Places of modes.
 fn put_places(places: &[u8], out: &mut [u32], at: usize) -> usize
     requires { ⌜ Ready at (now places) ⌝ }
     ensures { λ r. ⌜ Written (now (out .entry)) at (now (places .entry)) (now (out .exit)) r ⌝ }
@@ -128,6 +130,7 @@ fn put_places(places: &[u8], out: &mut [u32], at: usize) -> usize
     next
 }
 
+// Counts.
 fn put_values(values: &[u32], out: &mut [u32], at: usize) -> usize
     requires { ⌜ Ready at (now values) ⌝ }
     ensures { λ r. ⌜ Written (now (out .entry)) at (now (values .entry)) (now (out .exit)) r ⌝ }
@@ -256,6 +259,7 @@ fn put_some_name(text: &[u8], name: SomeName, out: &mut [u32], at: usize) -> usi
     }
 }
 
+// The operator, which stands there also where it is not written.
 fn put_op(op: CovariateOp, out: &mut [u32], at: usize) -> usize
     requires { ⌜ Ready at (operatorNumbers (opAs op)) ⌝ }
     ensures { λ r. ⌜ Written (now (out .entry)) at (operatorNumbers (opAs op)) (now (out .exit)) r ⌝ }
@@ -356,6 +360,7 @@ fn put_effects(
     put_op(op, out, second)
 }
 
+// COVARIATE.
 fn put_covariate(
     text: &[u8],
     value: Value,
@@ -381,6 +386,7 @@ fn put_covariate(
     put_effects(text, covariates, others, effects, list, op, out, second)
 }
 
+// ALLOMETRY.
 fn put_allometry(
     text: &[u8],
     covariate: Name,
@@ -400,6 +406,7 @@ fn put_allometry(
     put_some_name(text, reference, out, second)
 }
 
+// INDIRECTEFFECT.
 fn put_indirect(
     mode: Modes,
     list: ModeList,
@@ -419,6 +426,7 @@ fn put_indirect(
     put_modes(production, second, out, last)
 }
 
+// COVARIANCE.
 fn put_covariance(
     text: &[u8],
     optional: bool,
@@ -441,6 +449,7 @@ fn put_covariance(
     put_operand(text, parameters, pairs, out, second)
 }
 
+// A feature: its arrays come out of the value, and each variant has its own call.
 fn put_feature(text: &[u8], value: Value, feature: Feature, out: &mut [u32], at: usize) -> usize
     requires { ⌜ Ready at (featureNumbers (featureWith (now text) value feature)) ⌝ }
     ensures { λ r. ⌜ Written (now (out .entry)) at
@@ -532,6 +541,7 @@ fn put_feature(text: &[u8], value: Value, feature: Feature, out: &mut [u32], at:
     }
 }
 
+// LET.
 fn put_let(
     text: &[u8],
     name: Name,
@@ -552,6 +562,7 @@ fn put_let(
     put_names(text, pairs, values.count, out, second)
 }
 
+// A statement of a value.
 fn put_statement(
     text: &[u8],
     value: Value,
