@@ -22,6 +22,11 @@ abbrev pub fitting : ℕ → Answer (List ℕ) → Answer (List ℕ)
 fitting room (accepted bs) = cond (ltb room (length bs)) (refused 19 0) (accepted bs)
 fitting room (refused n p) = refused n p
 
+-- how long an answer is
+abbrev pub lengthOf : Answer (List ℕ) → Answer ℕ
+lengthOf (accepted bs) = accepted (length bs)
+lengthOf (refused n p) = refused n p
+
 -- "Output past the answer's length is untouched", and all of it when refusing
 abbrev pub output : Answer (List ℕ) → List ℕ → List ℕ
 output (accepted bs) before = bs ++ drop (length bs) before

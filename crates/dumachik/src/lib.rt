@@ -6,11 +6,12 @@ ghost use Rattle.tokens.specs.Lex.{tokens};
 ghost use Rattle.tokens.specs.Next.{scanned};
 ghost use Rattle.reading.specs.Read.{readText};
 ghost use Rattle.statements.specs.Answers.{counted};
-ghost use Rattle.canonical.specs.Print.{printText, fitting, output};
-ghost use Rattle.render.specs.Text.{lengthOf};
+ghost use Rattle.canonical.specs.Print.{printText, lengthOf, fitting, output};
+ghost use Rattle.numbers.specs.Answers.{numbersIn};
 ghost use Rattle.dumachik.specs.Scan.{strayAt};
 ghost use Rattle.dumachik.specs.Word.{word};
 use forms::Refusal;
+use numbers::NumbersAt;
 use render::Printed;
 use statements::CountRead;
 use tokens::Scanned;
@@ -27,7 +28,7 @@ pub extern "C" fn mfl_scan(text: &[u8]) -> usize
 }
 
 fn refusal_word(refusal: Refusal) -> u64
-    requires { ⌜ refusal .place ≤ 9223372036854775807 ⌝ }
+    requires { ⌜ refusal .place ≤ 13835058055282163712 ⌝ }
     ensures { λ r. ⌜ r ≡ refusal .number * 4294967296 + refusal .place ⌝ }
 {
     refusal.number as u64 * 4294967296 + refusal.place as u64
@@ -41,6 +42,18 @@ pub extern "C" fn mfl_count(text: &[u8]) -> u64
     match statements::count(text) {
         CountRead::Count(n) => n as u64,
         CountRead::Refused(refusal) => refusal_word(refusal),
+    }
+}
+
+// Statement: the numbers of the statement at an index in `out`, and how many they are.
+#[no_mangle]
+pub extern "C" fn mfl_statement(text: &[u8], index: u32, out: &mut [u32]) -> u64
+    ensures { λ r. ⌜ r ≡ word (lengthOf (fitting (length (now (out .entry))) (numbersIn (now (text .entry)) index))) ⌝ }
+    ensures { λ _. ⌜ now (out .exit) ≡ output (fitting (length (now (out .entry))) (numbersIn (now (text .entry)) index)) (now (out .entry)) ⌝ }
+{
+    match numbers::statement_numbers(text, index, out) {
+        NumbersAt::Count(n) => n as u64,
+        NumbersAt::Refused(refusal) => refusal_word(refusal),
     }
 }
 

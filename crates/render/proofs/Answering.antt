@@ -11,12 +11,12 @@ use Rattle.reading.specs.Statement.{Statement}
 use Rattle.reading.specs.Answer.{Answer, accepted, refused}
 use Rattle.reading.specs.Read.{readText}
 use Rattle.canonical.specs.Canonical.{canonical}
-use Rattle.canonical.specs.Print.{printed, printText, fitting, output}
+use Rattle.canonical.specs.Print.{lengthOf, printed, printText, fitting, output}
 use Rattle.writing.specs.Written.{patch, Written}
 use Rattle.writing.proofs.Writing.{patch-empty, patch-front}
 use Rattle.forms.specs.declared.Refusal.{Refusal}
 use Rattle.render.specs.declared.Printed.the-variants.{Length, Refused}
-use Rattle.render.specs.Text.{lengthOf, printedAs, Answers}
+use Rattle.render.specs.Text.{printedAs, Answers}
 
 -- a text that is refused
 pub refused-answers :

@@ -9,7 +9,7 @@ use Rattle.reading.specs.Statement.{Statement}
 use Rattle.reading.specs.Answer.{Answer, accepted, refused}
 use Rattle.reading.specs.Read.{readText}
 use Rattle.canonical.specs.Canonical.{statementShapes, canonical}
-use Rattle.canonical.specs.Print.{fitting, output}
+use Rattle.canonical.specs.Print.{lengthOf, fitting, output}
 use Rattle.writing.specs.Written.{Written}
 use Rattle.render.specs.declared.Printed.{Printed}
 use Rattle.render.specs.declared.Printed.the-variants.{Length, Refused}
@@ -32,10 +32,6 @@ abbrev pub Prints : ℕ → List ℕ → List ℕ → List ℕ → ℕ → Type 
 Prints limit s before after r = (ss : List Statement) → readText limit s ≡ accepted ss → Written before 0 (canonical ss) after r
 
 -- Print's answer: how many bytes the canonical text has, or the refusal
-abbrev pub lengthOf : Answer (List ℕ) → Answer ℕ
-lengthOf (accepted bs) = accepted (length bs)
-lengthOf (refused n p) = refused n p
-
 unfoldable pub printedAs : Printed → Answer ℕ
 printedAs (Length n) = accepted n
 printedAs (Refused r) = refused (r .number) (r .place)

@@ -1,0 +1,56 @@
+-- `numbers::put_allometry` meets its contract: its head, its covariate, its reference value.
+-- Assumes nothing.
+use mathlib.Core.List.{_++_}
+use mathlib.Core.Bool.{false}
+use borrow.Author.Needs.{needs}
+use denote.Ref.{now}
+use Rattle.forms.specs.Items.{nameIn}
+use Rattle.forms.specs.Forms.{someNameIn}
+use Rattle.writing.proofs.Going.{going, further, finished}
+use Rattle.numbers.specs.Numbers.{aloneNumbers, someNameNumbers, headNumbers}
+use Rattle.numbers.proofs.Pieces.{ready-left, ready-first}
+use Rattle.numbers.proofs.put_allometry.Statement.{statement}
+use Rattle.numbers.proofs.put_allometry.Tie as tie
+
+put-head-requires : tie.Need-put-head-requires
+put-head-requires c κs =
+    let a = c .before .before .before in
+    let x = a .args in
+    let s = now (x .text) in
+    ready-first (headNumbers 6 false) (aloneNumbers (nameIn s (x .covariate)) ++ (someNameNumbers (someNameIn s (x .reference)))) (a .pre)
+    (going (now (x .out)) _ _)
+
+put-named-requires : tie.Need-put-named-requires
+put-named-requires c κs =
+    let p = c .before .before .before in
+    let a = p .before .before .before .before in
+    let x = a .args in
+    let s = now (x .text) in
+    ready-first (aloneNumbers (nameIn s (x .covariate))) (someNameNumbers (someNameIn s (x .reference))) (a .pre)
+    (further (going _ _ _) (p .put-head .ensures))
+
+put-some-name-requires : tie.Need-put-some-name-requires
+put-some-name-requires c κs =
+    let q = c .before .before .before in
+    let p = q .before .before .before .before in
+    let a = p .before .before .before .before in
+    ready-left (a .pre) (further (further (going _ _ _) (p .put-head .ensures)) (q .put-named .ensures))
+
+same-length : tie.Need-same-length
+same-length c = search needs
+
+returns : tie.Need-returns
+returns c =
+    let q = c .before .before .before .before .before .before in
+    let p = q .before .before .before .before in
+    finished (further (further (going _ _ _) (p .put-head .ensures)) (q .put-named .ensures)) (c .before .before .put-some-name .ensures)
+
+pub put-allometry-spec : {M : Type 1} → statement M
+put-allometry-spec =
+    tie.close
+    (tie.spec
+    put-head-requires
+    put-named-requires
+    put-some-name-requires
+    same-length
+    returns)

@@ -1,0 +1,48 @@
+-- `numbers::put_transits` meets its contract, variant by variant.
+-- Assumes nothing.
+use borrow.Author.Needs.{needs}
+use Rattle.numbers.proofs.put_transits.Statement.{statement}
+use Rattle.numbers.proofs.put_transits.Tie as tie
+
+enum-told : tie.Need-enum-told
+enum-told c = search needs
+
+put-requires : tie.Need-put-requires
+put-requires c κs =
+    let e = c .before in
+    rw (e .enum-told .given .1) at (e .before .before .before .pre)
+
+enum-known-counts : tie.Need-enum-known-counts
+enum-known-counts c = search needs
+
+put-counts-requires : tie.Need-put-counts-requires
+put-counts-requires c κs =
+    let e = c .before .before in
+    rw (e .counts .given .1) at (e .before .before .before .pre)
+
+same-length : tie.Need-same-length
+same-length c = search needs
+
+returns : tie.Need-returns
+returns c =
+    rw (c .before .before .before .before .enum-told .given .1) (c .before .before .put .ensures)
+
+same-length-2 : tie.Need-same-length-2
+same-length-2 c = search needs
+
+returns-2 : tie.Need-returns-2
+returns-2 c =
+    rw (c .before .before .before .before .before .counts .given .1) (c .before .before .put-counts .ensures)
+
+pub put-transits-spec : {M : Type 1} → statement M
+put-transits-spec =
+    tie.close
+    (tie.spec
+    enum-told
+    put-requires
+    enum-known-counts
+    put-counts-requires
+    same-length
+    returns
+    same-length-2
+    returns-2)
