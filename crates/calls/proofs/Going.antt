@@ -1,41 +1,21 @@
 -- How the reading of arguments goes on from one to the next.
 -- Assumes nothing.
-use mathlib.Core.Path.{_≡_, refl, _∙_}
+use mathlib.Core.Path.{_≡_, refl}
 use mathlib.Core.Bool.{Bool}
-use mathlib.Core.List.{List, [], _∷_, _++_}
+use mathlib.Core.List.{List, [], _∷_}
 use Prim.Native.Nat.{ℕ, _≤_}
 use native.Mathlib.Omega.{arith}
 use Rattle.reading.specs.Statement.{Name}
 use Rattle.reading.specs.Argument as argument
 use Rattle.reading.specs.Feature.{buildFeature}
-use Rattle.reading.specs.Syntax.{featureCall, argumentRead, featureMade, empty, wrong}
-use Rattle.reading.specs.Syntax as syntax
+use Rattle.reading.specs.Syntax.{featureCall, featureMade, empty, wrong}
 use Rattle.forms.specs.declared.Args.{Args}
-use Rattle.arguments.specs.Answers.{readIn}
-use Rattle.calls.specs.declared.OneMore.{OneMore}
-use Rattle.calls.specs.declared.OneMore.the-variants as oneMore
 use Rattle.calls.specs.declared.FeatureRead.{FeatureRead}
 use Rattle.calls.specs.declared.FeatureRead.the-variants as featureRead
 use Rattle.calls.specs.declared.LetRead.{LetRead}
 use Rattle.calls.specs.declared.LetRead.the-variants as letRead
-use Rattle.calls.specs.Answers.{Holds, MoreThen, BehindThen, MoreFurther, FeatureFurther, LetFurther}
-
--- an argument that was read leads to what stands behind it
-pub more-then :
-    (limit : ℕ) (s : List ℕ) (o p : ℕ) (ys : List argument.Arg) (a : argument.Arg) (r : OneMore)
-    → ((k : Name) (m : Bool) → readIn limit s (syntax.argument (featureCall k m ys)) o ≡ readIn limit s (argumentRead (featureCall k m ys) a) p)
-    → BehindThen limit s p ys a r
-    → MoreThen limit s o ys r
-unfolding MoreThen BehindThen
-more-then limit s o p ys a (oneMore.More xs n) e f = (ys ++ a ∷ [], f .0, λ k m. e k m ∙ f .1 k m)
-more-then limit s o p ys a (oneMore.Done xs n) e f = (ys ++ a ∷ [], f .0, λ k m. e k m ∙ f .1 k m)
-more-then limit s o p ys a (oneMore.Refused r) e f = λ k m. e k m ∙ f k m
-
-pub more-further : (s : List ℕ) (o p count : ℕ) (r : OneMore) → o ≤ p → MoreFurther s p count r → MoreFurther s o count r
-unfolding MoreFurther
-more-further s o p count (oneMore.More xs n) h f = (omega (arith, f .0), f .1, f .2, f .3)
-more-further s o p count (oneMore.Done xs n) h f = (omega (arith, f .0), f .1, f .2)
-more-further s o p count (oneMore.Refused r) h f = f
+use Rattle.calls.specs.Answers.{FeatureFurther, LetFurther}
+use Rattle.calls.proofs.Held.{Holds}
 
 pub feature-further : (s : List ℕ) (o p : ℕ) (r : FeatureRead) → o ≤ p → FeatureFurther s p r → FeatureFurther s o r
 unfolding FeatureFurther

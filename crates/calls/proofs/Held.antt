@@ -7,6 +7,7 @@ use mathlib.Core.Option.{Option, some, none}
 use Prim.Native.Nat.{ℕ, suc, _+_, _-_}
 use native.Mathlib.Omega.{arith}
 use borrow.Author.Tests.{eq-eqb, ne-eqb}
+use lib.Dec.{eqb}
 use lib.ListN.{length, length-append, take, replicate}
 use Rattle.reading.specs.Statement.{Name}
 use Rattle.reading.specs.Answer.{wrongNumber}
@@ -33,10 +34,42 @@ use Rattle.reading.specs.Feature.{
   buildFeature,
 }
 use Rattle.forms.specs.declared.Arg.{Arg}
+use Rattle.forms.specs.declared.Arg.the-variants.{Star}
 use Rattle.forms.specs.declared.Args.{Args}
 use Rattle.forms.specs.Forms.{argIn, argsIn}
 use Rattle.forms.specs.Fits.{Fits, AllFit}
-use Rattle.calls.specs.Answers.{noArgs, addedAt, added, Holds}
+
+abbrev pub argsOf : ℕ → Arg → Arg → Arg → Arg → Args
+argsOf n a b c d = record { count = n; first = a; second = b; third = c; fourth = d }
+
+abbrev pub noArgs : Args
+noArgs = argsOf 0 (Star 0) (Star 0) (Star 0) (Star 0)
+
+-- one argument more in its place, by whether there are none, one, two or three before it
+unfoldable pub addedAt : Bool → Bool → Bool → Bool → Args → Arg → Args
+addedAt true b c d xs a = argsOf (xs .count + 1) a (xs .second) (xs .third) (xs .fourth)
+addedAt false true c d xs a = argsOf (xs .count + 1) (xs .first) a (xs .third) (xs .fourth)
+addedAt false false true d xs a = argsOf (xs .count + 1) (xs .first) (xs .second) a (xs .fourth)
+addedAt false false false true xs a = argsOf (xs .count + 1) (xs .first) (xs .second) (xs .third) a
+addedAt false false false false xs a = argsOf (xs .count + 1) (xs .first) (xs .second) (xs .third) (xs .fourth)
+
+abbrev pub added : Args → Arg → Args
+added xs a = addedAt (eqb (xs .count) 0) (eqb (xs .count) 1) (eqb (xs .count) 2) (eqb (xs .count) 3) xs a
+
+-- the arguments that are held are these: all of them up to the fourth, and their number
+unfoldable pub Holds : List ℕ → Args → List argument.Arg → Type 0
+Holds s xs [] = xs .count ≡ 0
+Holds s xs (a ∷ []) = (xs .count ≡ 1) × (argIn s (xs .first) ≡ a)
+Holds s xs (a ∷ b ∷ []) = (xs .count ≡ 2) × (argIn s (xs .first) ≡ a) × (argIn s (xs .second) ≡ b)
+Holds s xs (a ∷ b ∷ c ∷ []) =
+    (xs .count ≡ 3) × (argIn s (xs .first) ≡ a) × (argIn s (xs .second) ≡ b) × (argIn s (xs .third) ≡ c)
+Holds s xs (a ∷ b ∷ c ∷ d ∷ []) =
+    (xs .count ≡ 4)
+    × (argIn s (xs .first) ≡ a)
+    × (argIn s (xs .second) ≡ b)
+    × (argIn s (xs .third) ≡ c)
+    × (argIn s (xs .fourth) ≡ d)
+Holds s xs (a ∷ b ∷ c ∷ d ∷ e ∷ es) = xs .count ≡ 5 + length es
 
 pub none-held : (s : List ℕ) → Holds s noArgs []
 unfolding Holds

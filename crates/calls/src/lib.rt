@@ -1,19 +1,16 @@
 // A statement behind its keyword, read to its `)`: a feature's arguments, or a LET's name and argument.
 ghost use mathlib.Core.Path.{_≡_};
 ghost use mathlib.Core.Bool.{Bool};
-ghost use mathlib.Core.List.{List, [], _∷_, _++_};
-ghost use Prim.Native.Nat.{ℕ, _+_, _≤_, _<_};
-ghost use lib.ListN.{length};
+ghost use mathlib.Core.List.{List, []};
 ghost use Rattle.tokens.specs.Class.{classTable};
 ghost use Rattle.reading.specs.Statement.{Name as Name·spec};
 ghost use Rattle.reading.specs.Argument.{Arg as Arg·spec};
 ghost use Rattle.reading.specs.Syntax.{featureCall, letCall, keyword, letKeyword, letOpen};
 ghost use Rattle.reading.specs.Syntax.{argument as argument·state};
-ghost use Rattle.forms.specs.Forms.{argIn};
 ghost use Rattle.forms.specs.Items.{nameIn};
-ghost use Rattle.forms.specs.Fits.{InText, Fits, AllFit};
+ghost use Rattle.forms.specs.Fits.{InText};
 ghost use Rattle.arguments.specs.Answers.{readIn};
-ghost use Rattle.calls.specs.Answers.{noArgs, added, Holds, BehindThen, MoreThen, MoreFurther, argsThen, ArgsFurther, featureThen, FeatureFurther, letThen, LetFurther};
+ghost use Rattle.calls.specs.Answers.{oneThen, OneFurther, featureThen, FeatureFurther, letThen, LetFurther};
 use arguments::After;
 use arguments::ArgRead;
 use forms::Arg;
@@ -22,16 +19,10 @@ use forms::Name;
 use forms::Refusal;
 use tokens::Cursor;
 
-// One argument more, with the cursor behind the `,` or the `)` after it.
-pub enum OneMore {
-    More(Args, Cursor),
-    Done(Args, Cursor),
-    Refused(Refusal),
-}
-
-// The arguments of a feature, with the cursor behind their `)`.
-pub enum ArgsRead {
-    Args(Args, Cursor),
+// One argument with the cursor behind the `,` after it, or behind the `)` where it is the last; a `)` where it would start; or a refusal.
+pub enum OneArg {
+    Arg { arg: Arg, last: bool, next: Cursor },
+    Close { at: usize, next: Cursor },
     Refused(Refusal),
 }
 
@@ -51,135 +42,37 @@ pub enum LetRead {
     Refused(Refusal),
 }
 
-fn no_args() -> Args
-    ensures { λ r. ⌜ r ≡ noArgs ⌝ }
-{
-    Args {
-        count: 0,
-        first: Arg::Star(0),
-        second: Arg::Star(0),
-        third: Arg::Star(0),
-        fourth: Arg::Star(0),
-    }
-}
-
-// One argument more; past the fourth only their number is kept.
-fn with_arg(args: Args, arg: Arg) -> Args
-    requires { ⌜ args .count < 9223372036854775808 ⌝ }
-    ensures { λ r. ⌜ r ≡ added args arg ⌝ }
-{
-    let count = args.count;
-    let first = args.first;
-    let second = args.second;
-    let third = args.third;
-    let fourth = args.fourth;
-    let more = count + 1;
-    match count {
-        0 => Args {
-            count: more,
-            first: arg,
-            second,
-            third,
-            fourth,
-        },
-        1 => Args {
-            count: more,
-            first,
-            second: arg,
-            third,
-            fourth,
-        },
-        2 => Args {
-            count: more,
-            first,
-            second,
-            third: arg,
-            fourth,
-        },
-        3 => Args {
-            count: more,
-            first,
-            second,
-            third,
-            fourth: arg,
-        },
-        _ => Args {
-            count: more,
-            first,
-            second,
-            third,
-            fourth,
-        },
-    }
-}
-
-// An argument that was read, and what stands behind it.
-fn behind(text: &[u8], classes: &[u8; 256], args: Args, arg: Arg, at: usize) -> OneMore
-    requires { ⌜ (now classes ≡ classTable) × AllFit (now text) args × Fits (now text) arg × (args .count ≤ at) × (at ≤ length (now text)) ⌝ }
-    ensures { λ r. ⌜
-        ((limit : ℕ) (ys : List Arg·spec) → Holds (now (text .entry)) args ys → BehindThen limit (now (text .entry)) at ys (argIn (now (text .entry)) arg) r)
-        ⌝ }
-    ensures { λ r. ⌜ MoreFurther (now (text .entry)) at (args .count) r ⌝ }
-{
-    match arguments::after_argument(text, classes, at) {
-        After::Comma { at: _, next } => {
-            let all = with_arg(args, arg);
-            OneMore::More(all, next)
-        }
-        After::Close(next) => {
-            let all = with_arg(args, arg);
-            OneMore::Done(all, next)
-        }
-        After::Refused(r) => OneMore::Refused(r),
-    }
-}
-
-// The next argument, where `args` were read before.
-fn one_more(text: &[u8], classes: &[u8; 256], args: Args, at: usize, limit: u32) -> OneMore
-    requires { ⌜ (now classes ≡ classTable) × AllFit (now text) args × (args .count ≤ at) ⌝ }
-    ensures { λ r. ⌜ ((ys : List Arg·spec) → Holds (now (text .entry)) args ys → MoreThen limit (now (text .entry)) at ys r) ⌝ }
-    ensures { λ r. ⌜ MoreFurther (now (text .entry)) at (args .count) r ⌝ }
-{
-    match arguments::argument(text, classes, at, limit) {
-        ArgRead::Arg(arg, next) => behind(text, classes, args, arg, next.at),
-        ArgRead::Close { at: o, next } => {
-            if args.count == 0 {
-                return OneMore::Done(args, next);
-            }
-            OneMore::Refused(Refusal {
-                number: 3,
-                place: o,
-            })
-        }
-        ArgRead::Refused(r) => OneMore::Refused(r),
-    }
-}
-
-// The arguments behind a feature's `(`.
-fn read_args(text: &[u8], classes: &[u8; 256], at: usize, limit: u32) -> ArgsRead
+// One argument of a feature, and what stands behind it.
+fn one_arg(text: &[u8], classes: &[u8; 256], at: usize, limit: u32) -> OneArg
     requires { ⌜ now classes ≡ classTable ⌝ }
     ensures { λ r. ⌜
-        ((k : Name·spec) (m : Bool)
-        → readIn limit (now (text .entry)) (argument·state (featureCall k m [])) at ≡ argsThen limit (now (text .entry)) k m r)
+        ((k : Name·spec) (m : Bool) (ys : List Arg·spec)
+        → readIn limit (now (text .entry)) (argument·state (featureCall k m ys)) at ≡ oneThen limit (now (text .entry)) k m ys r)
         ⌝ }
-    ensures { λ r. ⌜ ArgsFurther (now (text .entry)) at r ⌝ }
+    ensures { λ r. ⌜ OneFurther (now (text .entry)) at r ⌝ }
 {
-    let mut args = no_args();
-    let mut cur = at;
-    loop {
-        match one_more(text, classes, args, cur, limit) {
-            OneMore::More(all, next) => {
-                args = all;
-                cur = next.at;
-            }
-            OneMore::Done(all, next) => return ArgsRead::Args(all, next),
-            OneMore::Refused(r) => return ArgsRead::Refused(r),
-        }
+    match arguments::argument(text, classes, at, limit) {
+        ArgRead::Arg(arg, end) => match arguments::after_argument(text, classes, end.at) {
+            After::Comma { at: _, next } => OneArg::Arg {
+                arg,
+                last: false,
+                next,
+            },
+            After::Close(next) => OneArg::Arg {
+                arg,
+                last: true,
+                next,
+            },
+            After::Refused(r) => OneArg::Refused(r),
+        },
+        ArgRead::Close { at: o, next } => OneArg::Close { at: o, next },
+        ArgRead::Refused(r) => OneArg::Refused(r),
     }
 }
 
-// A feature's arguments with its `?`.
-fn with_mark(text: &[u8], classes: &[u8; 256], at: usize, optional: bool, limit: u32) -> FeatureRead
+// The arguments behind a feature's `(`: they stand apart until the `)`, so that none is copied for the next; past the fourth only their
+// number is kept.
+fn read_args(text: &[u8], classes: &[u8; 256], at: usize, optional: bool, limit: u32) -> FeatureRead
     requires { ⌜ now classes ≡ classTable ⌝ }
     ensures { λ r. ⌜
         ((k : Name·spec)
@@ -187,13 +80,59 @@ fn with_mark(text: &[u8], classes: &[u8; 256], at: usize, optional: bool, limit:
         ⌝ }
     ensures { λ r. ⌜ FeatureFurther (now (text .entry)) at r ⌝ }
 {
-    match read_args(text, classes, at, limit) {
-        ArgsRead::Args(args, next) => FeatureRead::Call {
-            optional,
-            args,
-            next,
-        },
-        ArgsRead::Refused(r) => FeatureRead::Refused(r),
+    let mut count = 0;
+    let mut first = Arg::Star(0);
+    let mut second = Arg::Star(0);
+    let mut third = Arg::Star(0);
+    let mut fourth = Arg::Star(0);
+    let mut cur = at;
+    loop {
+        match one_arg(text, classes, cur, limit) {
+            OneArg::Arg { arg, last, next } => {
+                match count {
+                    0 => first = arg,
+                    1 => second = arg,
+                    2 => third = arg,
+                    3 => fourth = arg,
+                    _ => {}
+                }
+                count += 1;
+                if last {
+                    return FeatureRead::Call {
+                        optional,
+                        args: Args {
+                            count,
+                            first,
+                            second,
+                            third,
+                            fourth,
+                        },
+                        next,
+                    };
+                }
+                cur = next.at;
+            }
+            OneArg::Close { at: o, next } => {
+                if count == 0 {
+                    return FeatureRead::Call {
+                        optional,
+                        args: Args {
+                            count,
+                            first,
+                            second,
+                            third,
+                            fourth,
+                        },
+                        next,
+                    };
+                }
+                return FeatureRead::Refused(Refusal {
+                    number: 3,
+                    place: o,
+                });
+            }
+            OneArg::Refused(r) => return FeatureRead::Refused(r),
+        }
     }
 }
 
@@ -207,7 +146,7 @@ pub fn read_feature(text: &[u8], classes: &[u8; 256], at: usize, limit: u32) -> 
     let token = c.token(text, classes);
     let next = token.next;
     if token.kind == b'(' {
-        return with_mark(text, classes, next.at, false, limit);
+        return read_args(text, classes, next.at, false, limit);
     }
     if token.kind != b'?' {
         return FeatureRead::Refused(arguments::unexpected(token));
@@ -217,7 +156,7 @@ pub fn read_feature(text: &[u8], classes: &[u8; 256], at: usize, limit: u32) -> 
     if second.kind != b'(' {
         return FeatureRead::Refused(arguments::unexpected(second));
     }
-    with_mark(text, classes, after.at, true, limit)
+    read_args(text, classes, after.at, true, limit)
 }
 
 // The argument of a LET whose name is read, and its `)`.

@@ -27,8 +27,8 @@ beyond e = known _ _ (e .token2 .result) (e .token2 .ensures)
 token-requires : tie.Need-token-requires
 token-requires c κs = search needs
 
-with-mark-requires : tie.Need-with-mark-requires
-with-mark-requires c κs = search needs
+read-args-requires : tie.Need-read-args-requires
+read-args-requires c κs = search needs
 
 returns : tie.Need-returns
 unfolding turn
@@ -36,8 +36,8 @@ returns c =
     let d = c .before .before .before .before in
     let a = d .before .before .args in
     let r = known-mark (here d) 40 (c .before .if1 .taken) (lit≤ tt) in (
-      (λ k. read-token (a .limit) _ (keyword k) _ _ _ r ∙ c .with-mark .ensures .0 k),
-      feature-further _ _ _ (c .with-mark .result) (omega (arith, r .ahead, r .wide)) (c .with-mark .ensures .1),
+      (λ k. read-token (a .limit) _ (keyword k) _ _ _ r ∙ c .read-args .ensures .0 k),
+      feature-further _ _ _ (c .read-args .result) (omega (arith, r .ahead, r .wide)) (c .read-args .ensures .1),
     )
 
 unexpected-requires : tie.Need-unexpected-requires
@@ -75,8 +75,8 @@ returns-3 c =
       tt,
     )
 
-with-mark-requires-2 : tie.Need-with-mark-requires-2
-with-mark-requires-2 c κs = search needs
+read-args-requires-2 : tie.Need-read-args-requires-2
+read-args-requires-2 c κs = search needs
 
 returns-4 : tie.Need-returns-4
 unfolding turn
@@ -86,8 +86,8 @@ returns-4 c =
     let a = d .before .before .args in
     let r = known-mark (here d) 63 (e .before .if2 .left) (lit≤ tt) in
     let q = known-mark (beyond e) 40 (c .before .if3 .left) (lit≤ tt) in (
-      (λ k. read-token (a .limit) _ (keyword k) _ _ _ r ∙ read-token (a .limit) _ (marked k) _ _ _ q ∙ c .with-mark2 .ensures .0 k),
-      feature-further _ _ _ (c .with-mark2 .result) (omega (arith, r .ahead, r .wide, q .ahead, q .wide)) (c .with-mark2 .ensures .1),
+      (λ k. read-token (a .limit) _ (keyword k) _ _ _ r ∙ read-token (a .limit) _ (marked k) _ _ _ q ∙ c .read-args2 .ensures .0 k),
+      feature-further _ _ _ (c .read-args2 .result) (omega (arith, r .ahead, r .wide, q .ahead, q .wide)) (c .read-args2 .ensures .1),
     )
 
 pub read-feature-spec : {M : Type 1} → statement M
@@ -95,12 +95,12 @@ read-feature-spec =
     tie.close
     (tie.spec
     token-requires
-    with-mark-requires
+    read-args-requires
     returns
     unexpected-requires
     returns-2
     token-requires-2
     unexpected-requires-2
     returns-3
-    with-mark-requires-2
+    read-args-requires-2
     returns-4)
