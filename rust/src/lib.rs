@@ -2,7 +2,7 @@
 //!
 //! [`Mfl`] is a space that was accepted; its statements come as an owned tree with the names of ferx-core's mfl.rs. What is refused is refused
 //! by a number and a place, [`Refusal`]. The four calls themselves are there on slices: [`scan`], [`count`], [`print_into`],
-//! [`statement_into`]; they allocate nothing.
+//! [`statement_into`]; they allocate nothing. [`statement`] gives the last one's answer as a tree.
 //!
 //! ```
 //! use dumachik::{Counts, Fault, Feature, Mfl, Statement};
@@ -46,6 +46,13 @@ pub const MAX_ENTRIES: usize = 64;
 /// The largest count.
 pub const MAX_COUNT: u32 = 64;
 
+/// Statement: the statement of a text at an index, from zero. Each call reads the whole text; [`Mfl::statements`] is for all of them.
+pub fn statement(text: &[u8], index: u32) -> Result<Statement, Refusal> {
+    let mut numbers = [0; STATEMENT_ROOM];
+    let written = statement_into(text, index, &mut numbers)?;
+    Ok(numbers::statement_of(&numbers[..written], text))
+}
+
 /// An accepted space, held as its canonical text. That has the same statements as the text it was parsed from (proved of the calls), so two
 /// spaces are equal exactly where their statements are.
 #[derive(Debug, Clone, PartialEq, Eq, Hash, Default)]
@@ -84,17 +91,20 @@ impl Mfl {
         self.canonical.is_empty()
     }
 
-    /// The statement at an index, from zero. The call reads the whole text again, so all of them take the text's length times their number.
+    /// The statement at an index, from zero.
     pub fn statement(&self, index: usize) -> Option<Statement> {
-        let text = self.canonical.as_bytes();
-        let mut numbers = [0; STATEMENT_ROOM];
-        let written = statement_into(text, u32::try_from(index).ok()?, &mut numbers).ok()?;
-        Some(numbers::statement_of(&numbers[..written], text))
+        self.parts().nth(index).map(only_statement)
     }
 
     /// The statements in their order.
     pub fn statements(&self) -> Vec<Statement> {
-        (0..).map_while(|index| self.statement(index)).collect()
+        self.parts().map(only_statement).collect()
+    }
+
+    /// Each statement's canonical text. In a canonical text `;` stands between statements and nowhere else, and taking each part alone spares
+    /// reading the whole text for each.
+    fn parts(&self) -> impl Iterator<Item = &str> {
+        self.canonical.split(';').filter(|part| !part.is_empty())
     }
 
     /// The features in their order, each LET skipped.
@@ -104,6 +114,10 @@ impl Mfl {
             Statement::Let { .. } => None,
         })
     }
+}
+
+fn only_statement(part: &str) -> Statement {
+    statement(part.as_bytes(), 0).expect("a statement's canonical text is accepted")
 }
 
 impl fmt::Display for Mfl {

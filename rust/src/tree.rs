@@ -29,6 +29,29 @@ pub enum Feature {
     Covariance { optional: bool, level: Modes<VariabilityLevel>, parameters: Operand },
 }
 
+impl Feature {
+    /// The keyword as a canonical text has it, with its `?`.
+    pub fn keyword(&self) -> String {
+        let (word, optional) = match self {
+            Feature::Absorption(_) => ("ABSORPTION", false),
+            Feature::Elimination(_) => ("ELIMINATION", false),
+            Feature::Peripherals { .. } => ("PERIPHERALS", false),
+            Feature::Transits { .. } => ("TRANSITS", false),
+            Feature::Lagtime(_) => ("LAGTIME", false),
+            Feature::Covariate { optional, .. } => ("COVARIATE", *optional),
+            Feature::Allometry { .. } => ("ALLOMETRY", false),
+            Feature::DirectEffect(_) => ("DIRECTEFFECT", false),
+            Feature::EffectComp(_) => ("EFFECTCOMP", false),
+            Feature::IndirectEffect { .. } => ("INDIRECTEFFECT", false),
+            Feature::Metabolite(_) => ("METABOLITE", false),
+            Feature::Iiv { optional, .. } => ("IIV", *optional),
+            Feature::Iov { optional, .. } => ("IOV", *optional),
+            Feature::Covariance { optional, .. } => ("COVARIANCE", *optional),
+        };
+        format!("{word}{}", if optional { "?" } else { "" })
+    }
+}
+
 /// `*`, or the modes named, each once.
 #[derive(Debug, Clone, PartialEq, Eq, Hash)]
 pub enum Modes<M> {
@@ -52,6 +75,10 @@ pub trait Mode: Copy + PartialEq + 'static {
     const ALL: &'static [Self];
     /// The spelling in canonical texts.
     fn label(&self) -> &'static str;
+    /// The mode of a spelling, in any case.
+    fn parse(word: &str) -> Option<Self> {
+        Self::ALL.iter().copied().find(|mode| mode.label().eq_ignore_ascii_case(word))
+    }
 }
 
 macro_rules! mode_enum {
@@ -105,11 +132,31 @@ mode_enum!(
     VariabilityLevel { Iiv => "IIV", Iov => "IOV" }
 );
 
+impl CovariateEffect {
+    /// The forms for continuous covariates.
+    pub const CONTINUOUS: &'static [CovariateEffect] =
+        &[CovariateEffect::Lin, CovariateEffect::PieceLin, CovariateEffect::Exp, CovariateEffect::Pow];
+
+    /// Whether this form is for categorical covariates.
+    pub fn is_categorical(&self) -> bool {
+        matches!(self, CovariateEffect::Cat | CovariateEffect::Cat2)
+    }
+}
+
 /// `*`, also where it is not written, or `+`.
 #[derive(Debug, Clone, Copy, PartialEq, Eq, Hash)]
 pub enum CovariateOp {
     Multiply,
     Add,
+}
+
+impl CovariateOp {
+    pub fn label(&self) -> &'static str {
+        match self {
+            CovariateOp::Multiply => "*",
+            CovariateOp::Add => "+",
+        }
+    }
 }
 
 /// Parameters or covariates: `*`, `@SYMBOL`, or names as written.
@@ -118,6 +165,13 @@ pub enum Operand {
     Wildcard,
     Symbol(String),
     Names(Vec<String>),
+}
+
+impl Operand {
+    /// Whether a model must say what this stands for.
+    pub fn is_symbolic(&self) -> bool {
+        !matches!(self, Operand::Names(_))
+    }
 }
 
 /// One count, a range with both ends, or an array; each count is at most 64.

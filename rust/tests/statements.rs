@@ -119,3 +119,22 @@ fn spaces() {
     assert_eq!(Mfl::parse(space.render()).unwrap(), space);
     assert_ne!(Mfl::parse("LAGTIME(ON)"), Mfl::parse("LAGTIME([ON,OFF])"));
 }
+
+/// The keyword of each feature is that of its canonical text, and each label reads as its mode.
+#[test]
+fn words() {
+    let text = "ABSORPTION(*);ELIMINATION(*);PERIPHERALS(1);TRANSITS(1);LAGTIME(*);COVARIATE?(*,*,*);ALLOMETRY(WT);DIRECTEFFECT(*);EFFECTCOMP(*);\
+                INDIRECTEFFECT(*,*);METABOLITE(*);IIV(*,*);IIV?(*,*);IOV(*,*);IOV?(*,*);COVARIANCE(*,*);COVARIANCE?(*,*);COVARIATE(*,*,lin)";
+    let space = Mfl::parse(text).unwrap();
+    let keywords: Vec<String> = space.features().map(|feature| feature.keyword()).collect();
+    let wanted: Vec<&str> = text.split(';').map(|part| &part[..part.find('(').unwrap()]).collect();
+    assert_eq!(keywords, wanted);
+    for effect in CovariateEffect::ALL {
+        assert_eq!(CovariateEffect::parse(&effect.label().to_uppercase()), Some(*effect));
+        assert_eq!(Mfl::parse(format!("COVARIATE(*,*,{})", effect.label())).unwrap().len(), 1);
+    }
+    assert_eq!(CovariateEffect::parse("linear"), None);
+    assert_eq!(CovariateEffect::ALL.iter().filter(|effect| effect.is_categorical()).count(), 2);
+    assert!(Operand::Wildcard.is_symbolic() && !Operand::Names(names(&["CL"])).is_symbolic());
+    assert_eq!((CovariateOp::Multiply.label(), CovariateOp::Add.label()), ("*", "+"));
+}
