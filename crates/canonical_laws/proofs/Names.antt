@@ -6,6 +6,7 @@ use mathlib.Core.Bool.{Bool, true, false, cond, false≢true, or-false, _||_}
 use mathlib.Core.List.{List, [], _∷_, map}
 use Rattle.tokens.specs.Token.{word, number}
 use Rattle.tokens.specs.Spelling.{isWord, isNumber}
+use Rattle.token_laws.proofs.Spelled.{word-no-number}
 use Rattle.reading.specs.Statement.{Name, Kind, aWord, aNumber, Item, Operand, everyone, names}
 use Rattle.reading.specs.Statement as statement
 use Rattle.reading.specs.Answer.{accepted}
@@ -17,7 +18,6 @@ use Rattle.reading_laws.specs.WellFormed.{oneTo64, spelledAs, wellNamed, wellIt
 use Rattle.canonical.specs.Canonical.{nameShape, itemShape, bareOne, operandShapes}
 use Rattle.canonical_laws.specs.Forgotten.{nowhere}
 use Rattle.canonical_laws.specs.Printed.{Entry, wordEntry, numberEntry, bareArg, Again}
-use Rattle.canonical_laws.proofs.Spelling.{word-no-number}
 use Rattle.canonical_laws.proofs.Arguments.{star-printed, symbol-printed, single-printed}
 use Rattle.canonical_laws.proofs.Lists.{bare-list-printed}
 

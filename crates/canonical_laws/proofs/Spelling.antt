@@ -5,14 +5,14 @@ use native.Mathlib.Omega.{arith}
 use mathlib.Core.Path.{_≡_, refl}
 use mathlib.Core.Bool.{Bool, true, false, not, false≢true, _||_}
 use mathlib.Core.List.{List, [], _∷_}
-use borrow.Author.Tests.{eqb-true, eqb-false, eq-eqb, not-true}
+use borrow.Author.Tests.{eqb-false, eq-eqb, not-true}
 use lib.Dec.{eqb}
 use lib.ListN.{length}
 use lib.Seq.{drop-length}
 use Rattle.text.specs.Bytes.{bytes, memberOf, every}
-use Rattle.tokens.specs.Class.{classOf, classNumber, isA, letter, countUp}
-use Rattle.tokens.specs.Lex.{inWord, inNumber, fraction, numberRest}
-use Rattle.tokens.specs.Spelling.{isWord, isNumber}
+use Rattle.tokens.specs.Class.{classOf, countUp}
+use Rattle.tokens.specs.Lex.{inNumber, fraction, numberRest}
+use Rattle.tokens.specs.Spelling.{isNumber}
 use Rattle.token_laws.proofs.Tests.{and-left, and-right, every-member, span-every}
 use Rattle.counts.specs.Count.{isDigit, whole}
 use Rattle.counts.specs.Decimal.{digitsOf}
@@ -69,8 +69,3 @@ whole-no-n (d ∷ ds) h =
 
 pub digits-no-n : (v : ℕ) → sameWord (digitsOf v) (bytes "N") ≡ false
 digits-no-n v = whole-no-n (digitsOf v) (whole-digitsOf v)
-
--- A word is no number.
-pub word-no-number : (w : List ℕ) → isWord w ≡ true → isNumber w ≡ false
-word-no-number [] h = absurd (false≢true h)
-word-no-number (b ∷ bs) h = simp (eqb-true (classNumber b) 9 (and-left (isA letter b) (every inWord bs) h))

@@ -1,7 +1,7 @@
 -- What the answers of the functions that judge arguments mean, as answers of the definition of reading.
 use Prim.Native.Nat.{ℕ}
 use mathlib.Core.Bool.{Bool, true, false}
-use mathlib.Core.List.{List, [], _∷_, map}
+use mathlib.Core.List.{List, [], _∷_}
 use mathlib.Core.Path.{_≡_}
 use Rattle.labels.specs.declared.Family.{Family}
 use Rattle.reading.specs.Statement.{Name, Kind, aWord, aNumber, Item}

@@ -10,7 +10,6 @@ use lib.ListN.{length}
 use Rattle.reading.specs.Statement.{Statement}
 use Rattle.reading.specs.Answer.{Answer, accepted, refused}
 use Rattle.reading.specs.Read.{readText}
-use Rattle.reading_laws.proofs.Accepting.{not-refused}
 use Rattle.reading_laws.proofs.Within.{refused-within}
 use Rattle.canonical.specs.Canonical.{canonical}
 use Rattle.canonical.specs.Print.{printed, printText, fitting}

@@ -1,25 +1,22 @@
 -- The pairs of a list: each stands for its entry in the text, and ends before the next one starts.
 -- Assumes nothing.
 use mathlib.Core.Path.{_≡_, refl, _∙_, ap, sym, subst}
-use mathlib.Core.Bool.{Bool, true, false, false≢true, _&&_}
+use mathlib.Core.Bool.{true, false, false≢true}
 use mathlib.Core.List.{List, [], _∷_, map}
 use Prim.Native.Nat.{ℕ, zero, suc, _+_, _≤_}
 use native.Mathlib.Omega.{arith}
-use borrow.Author.Tests.{eqb-true, ne-eqb, le-leb}
-use lib.Dec.{eqb, leb}
+use borrow.Author.Tests.{le-leb}
 use lib.ListN.{length, drop}
-use Rattle.tokens.specs.Class.{classNumber}
 use Rattle.tokens.specs.Token.{Token, Tokens, _▸_}
-use Rattle.tokens.specs.Spelling.{isWord, isNumber, isShape}
-use Rattle.tokens.specs.Lex.{inWord}
+use Rattle.tokens.specs.Spelling.{isNumber, isShape}
 use Rattle.tokens.specs.Next.{tokenAt}
 use Rattle.tokens.specs.declared.Token as kinds
 use Rattle.tokens.proofs.Views.{Known, aWord, aNumber, aMark, aStray, theEnd, known}
-use Rattle.text.specs.Bytes.{every}
 use Rattle.token_laws.specs.Shaped.{allShapes}
 use Rattle.token_laws.proofs.Shapes.{tokens-shapes}
+use Rattle.token_laws.proofs.Spelled.{word-no-number}
 use Rattle.token_laws.proofs.Tests.{and-left}
-use Rattle.reading.specs.Statement.{Name, Kind, Item}
+use Rattle.reading.specs.Statement.{Kind, Item}
 use Rattle.forms.specs.declared.Items.{Items}
 use Rattle.forms.specs.declared.Name as form
 use Rattle.forms.specs.Items.{tokensFrom, nameIn, rest, entries, listed, itemsIn}
@@ -27,16 +24,9 @@ use Rattle.forms.specs.Fits.{InText, Listed}
 use Rattle.forms.proofs.Lists.{items-are}
 use Rattle.checks.specs.declared.Item as checked
 use Rattle.checks.specs.Answers.{kindOf}
-use Rattle.checks.proofs.Entries.{itemOf, Entry, entry-here, entries-more, listed-more, behind}
+use Rattle.checks.proofs.Entries.{itemOf, entry-here, entries-more, listed-more, behind}
 use Rattle.lists.specs.Lists.{kindFor, pairOf, pairsOf, itemAt, sorted}
 use Rattle.lists.proofs.Filling.{entryAs, own-pair, own-length}
-
--- a word is no number
-word-no-number : (w : List ℕ) → isWord w ≡ true → isNumber w ≡ false
-word-no-number [] e = absurd (false≢true e)
-word-no-number (b ∷ bs) e =
-    let letter : classNumber b ≡ 9 = eqb-true (classNumber b) 9 (and-left (eqb (classNumber b) 9) (every inWord bs) e) in
-    simp (ne-eqb (classNumber b) 8 (omega arith))
 
 -- Entries from an offset on, each where its pair says.
 pub data Ordered (s : List ℕ) : ℕ → List Item → Type 0 where

@@ -149,7 +149,7 @@ pub fn modes_of(
     items: Items,
 ) -> ModeList
     requires { ⌜ (now classes ≡ classTable) × (now labels ≡ labelTable) × Listed (now text) items ⌝ }
-    ensures { λ r. ⌜ chosen r ≡ firsts (placesIn family (itemsIn (now (text .entry)) items)) ⌝ }
+    ensures { λ r. ⌜ (chosen r ≡ firsts (placesIn family (itemsIn (now (text .entry)) items))) × (r .count ≤ 64) ⌝ }
 {
     let mut modes = no_modes();
     let mut read = 0;

@@ -3,7 +3,7 @@
 use mathlib.Core.Path.{_≡_, _∙_, ap}
 use mathlib.Core.Bool.{true}
 use mathlib.Core.List.{List, [], _++_}
-use Prim.Native.Nat.{ℕ, suc, _-_, _≤_, _<_}
+use Prim.Native.Nat.{ℕ, suc, _-_, _<_}
 use native.Mathlib.Omega.{arith}
 use lib.ListN.{length, length-map}
 use Rattle.tokens.specs.Token.{Tokens}
@@ -45,10 +45,6 @@ entries-many e n ts l = length-map (entries n ts) (λ i. shapeAs e (i .name)) �
 pub how-many : (e : Entry) (s : List ℕ) (is : Items) → Listed s is → length (shapesAs e (itemsIn s is)) ≡ is .count
 how-many e s is l =
     ap (λ (xs : List Item). length (shapesAs e xs)) (items-are s is l) ∙ entries-many e (is .count) (tokensFrom s (is .first)) (l .are)
-
-pub at-most-64 : (s : List ℕ) (is : Items) → Listed s is → length (itemsIn s is) ≤ 64
-at-most-64 s is l =
-    omega (arith, ap length (items-are s is l), entries-length (is .count) (tokensFrom s (is .first)) (l .are), l .few)
 
 -- of the bytes to be written, those of so many entries from an offset on are left
 pub record Left (e : Entry) (s before : List ℕ) (at : ℕ) (all now : List ℕ) (next n o : ℕ) : Type 0 where

@@ -15,7 +15,7 @@ ghost use Rattle.forms.specs.Items.{nameIn, itemsIn};
 ghost use Rattle.forms.specs.Forms.{modesIn, countsIn, operandIn};
 ghost use Rattle.forms.specs.Fits.{InText, Listed};
 ghost use Rattle.writing.specs.Written.{Room, Written};
-ghost use Rattle.printing.specs.Parts.{shapeAs, shapesAs, behindEntry, OperandFits, CountsFit, ModesFit};
+ghost use Rattle.printing.specs.Parts.{shapeAs, shapesAs, bareAs, listAs, behindEntry, OperandFits, CountsFit, ModesFit};
 use forms::Counts;
 use forms::Items;
 use forms::Modes;
@@ -127,6 +127,37 @@ fn put_bracketed(
     writing::put(out, last, b']')
 }
 
+// Whether a list is printed without its brackets: one name, but never counts.
+fn is_bare(entry: Entry, count: usize) -> bool
+    ensures { λ r. ⌜ r ≡ bareAs entry count ⌝ }
+{
+    match entry {
+        Entry::Name => count == 1,
+        Entry::Count => false,
+    }
+}
+
+// A list: one name bare, all others in their brackets.
+fn put_list(
+    text: &[u8],
+    classes: &[u8; 256],
+    entry: Entry,
+    items: Items,
+    out: &mut [u8],
+    at: usize,
+) -> usize
+    requires { ⌜ (now classes ≡ classTable) × Listed (now text) items
+        × Room at (spellAll (listAs entry (shapesAs entry (itemsIn (now text) items)))) ⌝ }
+    ensures { λ r. ⌜ Written (now (out .entry)) at
+        (spellAll (listAs entry (shapesAs entry (itemsIn (now (text .entry)) items))))
+        (now (out .exit)) r ⌝ }
+{
+    if is_bare(entry, items.count) {
+        return put_entries(text, classes, entry, items, out, at);
+    }
+    put_bracketed(text, classes, entry, items, out, at)
+}
+
 // A list of names, bare if it is one name.
 pub fn put_names(text: &[u8], classes: &[u8; 256], items: Items, out: &mut [u8], at: usize) -> usize
     requires { ⌜ (now classes ≡ classTable) × Listed (now text) items
@@ -135,10 +166,7 @@ pub fn put_names(text: &[u8], classes: &[u8; 256], items: Items, out: &mut [u8],
         (spellAll (bareOne (map itemShape (itemsIn (now (text .entry)) items))))
         (now (out .exit)) r ⌝ }
 {
-    if items.count == 1 {
-        return put_entries(text, classes, Entry::Name, items, out, at);
-    }
-    put_bracketed(text, classes, Entry::Name, items, out, at)
+    put_list(text, classes, Entry::Name, items, out, at)
 }
 
 // A range's two ends.
@@ -167,7 +195,7 @@ pub fn put_counts(
     match counts {
         Counts::Single(value) => writing::put_count(out, at, value),
         Counts::Range(low, high) => put_range(out, at, low, high),
-        Counts::List(items) => put_bracketed(text, classes, Entry::Count, items, out, at),
+        Counts::List(items) => put_list(text, classes, Entry::Count, items, out, at),
     }
 }
 

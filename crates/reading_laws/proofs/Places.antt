@@ -63,7 +63,7 @@ unfolding firsts
 firsts-most [] = omega arith
 firsts-most (x ∷ xs) = omega (arith, without-most x (firsts xs), firsts-most xs)
 
-firsts-all : (p : ℕ → Bool) (xs : List ℕ) → all p xs ≡ true → all p (firsts xs) ≡ true
+pub firsts-all : (p : ℕ → Bool) (xs : List ℕ) → all p xs ≡ true → all p (firsts xs) ≡ true
 unfolding firsts
 firsts-all p [] e = refl
 firsts-all p (x ∷ xs) e =

@@ -16,8 +16,7 @@ use Rattle.tokens.specs.Class.{classOf}
 use Rattle.tokens.specs.Token.{Tokens, finish, bad, _▸_}
 use Rattle.tokens.specs.Lex.{Front, skip, taken, wrong, frontOf, follow, tokensAfter, tokens}
 use Rattle.tokens.specs.Next.{scanned}
-use Rattle.reading.specs.Statement.{Statement}
-use Rattle.reading.specs.Answer.{Answer, accepted, refused, tooLong}
+use Rattle.reading.specs.Answer.{refused, tooLong}
 use Rattle.reading.specs.Read.{between, readFrom, readScanned, readText}
 use Rattle.reading_laws.specs.Moved.{moveRead, moveTokens}
 use Rattle.reading_laws.proofs.Moving.{reading-moved}

@@ -10,7 +10,7 @@ use lib.Dec.{eqb}
 use lib.ListN.{length, take}
 use lib.Seq.{take-append-seam, drop-append-seam}
 use Rattle.text.specs.Bytes.{bytes, is, among, every, span}
-use Rattle.tokens.specs.Class.{Class, semicolon, mark, dot, digit, letter, classOf, isA}
+use Rattle.tokens.specs.Class.{Class, semicolon, mark, dot, digit, letter, classOf, classNumber, isA}
 use Rattle.tokens.specs.Token.{Shape, Tokens, finish, _▸_, range, width}
 use Rattle.tokens.specs.Token as shapes
 use Rattle.tokens.specs.Lex.{Front, taken, inWord, numberRest, dots, frontOf, follow, tokensAfter, tokensAt, tokens}
@@ -173,3 +173,8 @@ word-alone w e = ap tokens (sym (append-nil w)) ∙ word-first 0 w [] e refl
 pub number-alone : (w : List ℕ) → isNumber w ≡ true → tokens w ≡ record { place = 0; shape = shapes.number w } ▸ finish
 unfolding tokensAfter
 number-alone w e = ap tokens (sym (append-nil w)) ∙ number-first 0 w [] e refl
+
+-- a word is no number
+pub word-no-number : (w : List ℕ) → isWord w ≡ true → isNumber w ≡ false
+word-no-number [] h = absurd (false≢true h)
+word-no-number (b ∷ bs) h = simp (eqb-true (classNumber b) 9 (and-left (isA letter b) (every inWord bs) h))

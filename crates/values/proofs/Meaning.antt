@@ -1,6 +1,6 @@
 -- A value whose arrays hold the lists of a statement stands for that statement, and its pairs are sorted.
 -- Assumes nothing.
-use mathlib.Core.Path.{_≡_, refl, _∙_, ap, sym}
+use mathlib.Core.Path.{_≡_, refl, _∙_, ap}
 use mathlib.Core.Bool.{true}
 use mathlib.Core.List.{List, [], _∷_, map}
 use Prim.Native.Nat.{ℕ}
@@ -63,7 +63,6 @@ use Rattle.statements.specs.declared.StatementAt.{StatementAt}
 use Rattle.statements.specs.declared.StatementAt.the-variants as found
 use Rattle.statements.specs.Answers.{statementAs}
 use Rattle.values.specs.declared.Value.{Value}
-use Rattle.values.specs.declared.Lists.{Lists}
 use Rattle.values.specs.Lists.{operandList, countsList, transitsList, modesList, someModesList, featureLists, statementLists, foundLists, Readable}
 use Rattle.values.specs.Value.{modesWith, someModesWith, countsWith, transitsWith, operandWith, featureWith, statementWith, foundWith, valueAs, Sorted, Filled}
 

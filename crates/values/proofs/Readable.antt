@@ -28,7 +28,7 @@ use Rattle.reading.specs.Statement as statement
 use Rattle.reading.specs.Answer.{Answer, accepted, refused}
 use Rattle.reading.specs.Argument.{firsts}
 use Rattle.reading.specs.Read.{readText}
-use Rattle.reading_laws.specs.WellFormed.{oneTo64, wellItem, wellNamed, wellModes, withinLimit, wellCounts, wellOperand, wellEffects, wellTransits, wellFeature, wellFormed, optional}
+use Rattle.reading_laws.specs.WellFormed.{oneTo64, wellItem, wellModes, wellCounts, wellOperand, wellEffects, wellTransits, wellFeature, wellFormed, optional}
 use Rattle.reading_laws.proofs.WellRead.{text-well-formed}
 use Rattle.reading_laws.proofs.Accepting.{not-refused}
 use Rattle.forms.specs.declared.Items.{Items}
@@ -68,7 +68,6 @@ use Rattle.forms.proofs.Lists.{has-entries}
 use Rattle.statements.specs.declared.StatementAt.{StatementAt}
 use Rattle.statements.specs.declared.StatementAt.the-variants as found
 use Rattle.statements.specs.Answers.{statementAs, chosen, nthOf}
-use Rattle.values.specs.declared.Lists.{Lists}
 use Rattle.values.specs.Lists.{noItems, operandList, countsList, transitsList, modesList, someModesList, ofModes, ofNames, featureLists, statementLists, foundLists, Readable}
 
 -- a list that a statement does not have

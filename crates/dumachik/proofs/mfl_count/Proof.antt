@@ -1,5 +1,5 @@
 -- `dumachik::mfl_count` meets its contract: a refusal's place lies in the text, so its word can be told. Assumes nothing.
-use mathlib.Core.Path.{_≡_, _∙_, ap, sym}
+use mathlib.Core.Path.{_∙_, ap, sym}
 use native.Mathlib.Omega.{arith}
 use denote.Ref.{now}
 use borrow.Author.Needs.{needs}

@@ -1,5 +1,5 @@
 -- `dumachik::mfl_print` meets its contract: a refusal's place lies in the text, so its word can be told. Assumes nothing.
-use mathlib.Core.Path.{_≡_, _∙_, ap, sym}
+use mathlib.Core.Path.{_∙_, ap, sym}
 use native.Mathlib.Omega.{arith}
 use lib.ListN.{length}
 use denote.Ref.{now}

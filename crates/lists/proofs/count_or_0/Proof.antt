@@ -1,7 +1,6 @@
 -- `lists::count_or_0` meets its contract. Assumes nothing.
-use mathlib.Core.Path.{_≡_, _∙_, ap, sym}
+use mathlib.Core.Path.{_∙_, sym}
 use borrow.Author.Needs.{needs}
-use Rattle.forms.specs.Forms.{countOr0}
 use Rattle.lists.proofs.count_or_0.Statement.{statement}
 use Rattle.lists.proofs.count_or_0.Tie as tie
 

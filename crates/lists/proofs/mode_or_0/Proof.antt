@@ -1,5 +1,5 @@
 -- `lists::mode_or_0` meets its contract: what a look-up finds is a byte. Assumes nothing.
-use mathlib.Core.Path.{_≡_, _∙_, ap, sym}
+use mathlib.Core.Path.{_∙_, ap, sym}
 use borrow.Author.Needs.{needs}
 use Rattle.checks.proofs.Judging.{found-some, found-none}
 use Rattle.labels.specs.Word.{find}

@@ -1,8 +1,8 @@
 -- `lists::modes_of` meets its contract. The invariant: so many entries were read, and their modes stand in the array, each once.
 -- Assumes nothing.
 use Prim.Native.Nat.{ℕ, _+_, _-_, _≤_, _<_}
-use mathlib.Core.Path.{_≡_, refl, _∙_, ap, sym}
-use mathlib.Core.List.{List, [], _∷_, _++_, map}
+use mathlib.Core.Path.{_≡_, _∙_, ap, sym}
+use mathlib.Core.List.{List, [], _∷_}
 use native.Mathlib.Omega.{arith}
 use denote.Ref.{now}
 use lib.ListN.{take}
@@ -110,10 +110,13 @@ loop-again c =
 returns : tie.Need-returns Inv-loop μ-loop
 returns c =
     let l = c .before .before in
-    let a = l .before .before .before .args in
-    l .loop .inv .are
-    ∙ ap (λ (is : List Item). firsts (placesIn (a .family) is))
-    (come-last (now (a .text)) (a .items) (l .loop .read) (l .loop .from) (l .before .before .before .pre .2) (l .loop .inv .come) (c .if1 .left))
+    let k = l .before .before .before in
+    let g = l .loop .inv in (
+      g .are
+          ∙ ap (λ (is : List Item). firsts (placesIn (k .args .family) is))
+          (come-last (now (k .args .text)) (k .args .items) (l .loop .read) (l .loop .from) (k .pre .2) (g .come) (c .if1 .left)),
+      omega (arith, g .few, g .come .most, k .pre .2 .few),
+    )
 
 pub modes-of-spec : {M : Type 1} → statement M
 modes-of-spec =

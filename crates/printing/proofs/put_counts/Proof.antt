@@ -30,8 +30,8 @@ put-range-requires c κs =
 enum-known-counts-3 : tie.Need-enum-known-counts-3
 enum-known-counts-3 c = search needs
 
-put-bracketed-requires : tie.Need-put-bracketed-requires
-put-bracketed-requires c κs =
+put-list-requires : tie.Need-put-list-requires
+put-list-requires c κs =
     let e = c .before .before in
     let a = e .before .before .before .before in
     let h = rw (e .counts3 .given .1) at (a .pre) in
@@ -60,7 +60,7 @@ returns-3 : tie.Need-returns-3
 returns-3 c =
     let e = c .before .before .before .before .before in
     let a = e .before .before .before .before .args in
-    rw (e .counts3 .given .1, listed-counts (now (a .text)) (e .counts3 .given .0 .0)) (c .before .before .put-bracketed .ensures)
+    rw (e .counts3 .given .1, listed-counts (now (a .text)) (e .counts3 .given .0 .0)) (c .before .before .put-list .ensures)
 
 pub put-counts-spec : {M : Type 1} → statement M
 put-counts-spec =
@@ -71,7 +71,7 @@ put-counts-spec =
     enum-known-counts-2
     put-range-requires
     enum-known-counts-3
-    put-bracketed-requires
+    put-list-requires
     same-length
     returns
     same-length-2

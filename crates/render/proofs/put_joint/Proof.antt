@@ -1,12 +1,6 @@
 -- `render::put_joint` meets its contract. Assumes nothing.
-use mathlib.Core.Path.{_≡_, _∙_, ap, sym, subst}
-use mathlib.Core.List.{List}
-use Prim.Native.Nat.{ℕ}
-use denote.Ref.{now}
 use borrow.Author.Needs.{needs}
-use Rattle.writing.specs.Written.{Room, Written}
-use Rattle.writing.proofs.Writing.{nothing-written, room-same, same-room}
-use Rattle.render.specs.Text.{jointOf}
+use Rattle.writing.proofs.Writing.{nothing-written, room-same}
 use Rattle.render.proofs.Pieces.{joint-later}
 use Rattle.render.proofs.put_joint.Statement.{statement}
 use Rattle.render.proofs.put_joint.Tie as tie
