@@ -1,0 +1,140 @@
+//! Every feature as a tree, and spaces as a whole.
+use dumachik::{
+    count, AbsorptionMode, Counts, CovariateEffect, CovariateOp, DepotMode, EliminationMode, Feature, LagtimeMode, MetaboliteMode, Mfl,
+    Mode, Modes, Operand, PdMode, PeripheralKind, ProductionMode, Statement, TransitCounts, VariabilityEffect, VariabilityLevel,
+    STATEMENT_ROOM,
+};
+
+fn names(names: &[&str]) -> Vec<String> {
+    names.iter().map(|name| name.to_string()).collect()
+}
+
+fn reads(text: &str, feature: Feature) {
+    assert_eq!(Mfl::parse(text).unwrap().statements(), [Statement::Feature(feature)], "{text}");
+}
+
+#[test]
+fn modes_alone() {
+    reads("absorption([seq-zo-fo,FO,fo])", Feature::Absorption(Modes::List(vec![AbsorptionMode::SeqZoFo, AbsorptionMode::Fo])));
+    reads("ELIMINATION(mix-fo-mm)", Feature::Elimination(Modes::List(vec![EliminationMode::MixFoMm])));
+    reads("LAGTIME(*)", Feature::Lagtime(Modes::Wildcard));
+    reads("LAGTIME([OFF])", Feature::Lagtime(Modes::List(vec![LagtimeMode::Off])));
+    reads("DIRECTEFFECT(STEP)", Feature::DirectEffect(Modes::List(vec![PdMode::Step])));
+    reads("EFFECTCOMP(LOGLIN)", Feature::EffectComp(Modes::List(vec![PdMode::Loglin])));
+    reads("METABOLITE(PSC)", Feature::Metabolite(Modes::List(vec![MetaboliteMode::Psc])));
+    reads(
+        "INDIRECTEFFECT(*,DEGRADATION)",
+        Feature::IndirectEffect { mode: Modes::Wildcard, production: Modes::List(vec![ProductionMode::Degradation]) },
+    );
+}
+
+#[test]
+fn counts() {
+    let peripherals = |counts, kind| Feature::Peripherals { counts, kind };
+    reads("PERIPHERALS(007)", peripherals(Counts::Single(7), None));
+    reads("PERIPHERALS(0 .. 64,MET)", peripherals(Counts::Range(0, 64), Some(Modes::List(vec![PeripheralKind::Met]))));
+    reads("PERIPHERALS([3,1,3],*)", peripherals(Counts::List(vec![3, 1, 3]), Some(Modes::Wildcard)));
+    reads("TRANSITS(n)", Feature::Transits { counts: TransitCounts::N, depot: None });
+    reads(
+        "TRANSITS([9],NODEPOT)",
+        Feature::Transits { counts: TransitCounts::Counts(Counts::List(vec![9])), depot: Some(Modes::List(vec![DepotMode::NoDepot])) },
+    );
+    assert_eq!(Counts::Range(2, 4).expand(), [2, 3, 4]);
+    assert_eq!(Counts::List(vec![3, 1, 3]).expand(), [1, 3]);
+}
+
+#[test]
+fn operands() {
+    reads(
+        "COVARIATE?(@ IIV,[Wt,70,Wt],[pow,custom],+)",
+        Feature::Covariate {
+            optional: true,
+            parameters: Operand::Symbol("IIV".into()),
+            covariates: Operand::Names(names(&["Wt", "70", "Wt"])),
+            effects: Modes::List(vec![CovariateEffect::Pow, CovariateEffect::Custom]),
+            op: CovariateOp::Add,
+        },
+    );
+    reads(
+        "COVARIATE(CL,*,lin)",
+        Feature::Covariate {
+            optional: false,
+            parameters: Operand::Names(names(&["CL"])),
+            covariates: Operand::Wildcard,
+            effects: Modes::List(vec![CovariateEffect::Lin]),
+            op: CovariateOp::Multiply,
+        },
+    );
+    let effects = Modes::List(vec![VariabilityEffect::ReLog]);
+    reads("IIV?(*,re_log)", Feature::Iiv { optional: true, parameters: Operand::Wildcard, effects: effects.clone() });
+    reads("IOV(*,re_log)", Feature::Iov { optional: false, parameters: Operand::Wildcard, effects });
+    reads(
+        "COVARIANCE([IOV,IIV],@PK)",
+        Feature::Covariance {
+            optional: false,
+            level: Modes::List(vec![VariabilityLevel::Iov, VariabilityLevel::Iiv]),
+            parameters: Operand::Symbol("PK".into()),
+        },
+    );
+}
+
+#[test]
+fn names_alone() {
+    reads("ALLOMETRY(WT)", Feature::Allometry { covariate: "WT".into(), reference: None });
+    reads("ALLOMETRY(WT,70.0)", Feature::Allometry { covariate: "WT".into(), reference: Some("70.0".into()) });
+    let space = Mfl::parse("LET(x,1.5)\nLET(N,[a-b,_])").unwrap();
+    let wanted =
+        [Statement::Let { name: "x".into(), values: names(&["1.5"]) }, Statement::Let { name: "N".into(), values: names(&["a-b", "_"]) }];
+    assert_eq!(space.statements(), wanted);
+    assert_eq!(space.features().count(), 0);
+}
+
+/// The largest answer of Statement fits `STATEMENT_ROOM` exactly.
+#[test]
+fn largest_statement() {
+    let list = vec!["B"; 64].join(",");
+    let text = format!("COVARIATE?([{list}],[{list}],[lin,piece_lin,exp,pow,cat,cat2,custom])");
+    let mut out = [0; STATEMENT_ROOM];
+    assert_eq!(dumachik::statement_into(text.as_bytes(), 0, &mut out), Ok(STATEMENT_ROOM));
+    let [Statement::Feature(Feature::Covariate { parameters: Operand::Names(parameters), effects, .. })] =
+        &Mfl::parse(text).unwrap().statements()[..]
+    else {
+        panic!("not a COVARIATE")
+    };
+    assert_eq!(parameters.len(), 64);
+    assert_eq!(effects.expand(), CovariateEffect::ALL);
+}
+
+#[test]
+fn spaces() {
+    let space = Mfl::parse("# none\n;;").unwrap();
+    assert_eq!((space.len(), space.is_empty(), space.as_str()), (0, true, ""));
+    assert_eq!(space, Mfl::default());
+
+    let text = "let(S, [WT]); lagtime([ON,on])\nIIV?(@S, *) # é\n".repeat(85);
+    let space: Mfl = text.parse().unwrap();
+    assert_eq!((space.len(), count(text.as_bytes())), (255, Ok(255)));
+    assert_eq!((space.statements().len(), space.features().count()), (255, 170));
+    assert_eq!(space.to_string(), vec!["LET(S,WT);LAGTIME(ON);IIV?(@S,*)"; 85].join(";"));
+    assert_eq!(Mfl::parse(space.render()).unwrap(), space);
+    assert_ne!(Mfl::parse("LAGTIME(ON)"), Mfl::parse("LAGTIME([ON,OFF])"));
+}
+
+/// The keyword of each feature is that of its canonical text, and each label reads as its mode.
+#[test]
+fn words() {
+    let text = "ABSORPTION(*);ELIMINATION(*);PERIPHERALS(1);TRANSITS(1);LAGTIME(*);COVARIATE?(*,*,*);ALLOMETRY(WT);DIRECTEFFECT(*);EFFECTCOMP(*);\
+                INDIRECTEFFECT(*,*);METABOLITE(*);IIV(*,*);IIV?(*,*);IOV(*,*);IOV?(*,*);COVARIANCE(*,*);COVARIANCE?(*,*);COVARIATE(*,*,lin)";
+    let space = Mfl::parse(text).unwrap();
+    let keywords: Vec<String> = space.features().map(|feature| feature.keyword()).collect();
+    let wanted: Vec<&str> = text.split(';').map(|part| &part[..part.find('(').unwrap()]).collect();
+    assert_eq!(keywords, wanted);
+    for effect in CovariateEffect::ALL {
+        assert_eq!(CovariateEffect::parse(&effect.label().to_uppercase()), Some(*effect));
+        assert_eq!(Mfl::parse(format!("COVARIATE(*,*,{})", effect.label())).unwrap().len(), 1);
+    }
+    assert_eq!(CovariateEffect::parse("linear"), None);
+    assert_eq!(CovariateEffect::ALL.iter().filter(|effect| effect.is_categorical()).count(), 2);
+    assert!(Operand::Wildcard.is_symbolic() && !Operand::Names(names(&["CL"])).is_symbolic());
+    assert_eq!((CovariateOp::Multiply.label(), CovariateOp::Add.label()), ("*", "+"));
+}

@@ -1,0 +1,81 @@
+/* Known answers of the library's calls, by way of include/dumachik.h. Prints `N passed, M failed`; its status is 1 where one fails. */
+#include <stdio.h>
+#include <string.h>
+
+#include "dumachik.h"
+
+static int passed, failed;
+
+static void check(const char *what, uint64_t found, uint64_t wanted) {
+    if (found == wanted) {
+        passed++;
+        return;
+    }
+    failed++;
+    printf("%s: %u %u, not %u %u\n", what, MFL_REFUSAL(found), MFL_PLACE(found), MFL_REFUSAL(wanted), MFL_PLACE(wanted));
+}
+
+static const uint8_t *bytes(const char *text) { return (const uint8_t *)text; }
+
+static uint64_t refusal(uint64_t number, uint64_t place) { return number << 32 | place; }
+
+static void counts(const char *text, uint64_t wanted) { check(text, mfl_count(bytes(text), strlen(text)), wanted); }
+
+/* Print into a buffer of `room` bytes with a pattern behind it: `wanted`, then the pattern, or the pattern alone where it refuses. */
+static void prints(const char *text, size_t room, uint64_t answer, const char *wanted) {
+    uint8_t out[64], held[64];
+    memset(out, 0xA5, sizeof out);
+    memset(held, 0xA5, sizeof held);
+    memcpy(held, wanted, strlen(wanted));
+    check(text, mfl_print(bytes(text), strlen(text), out, room), answer);
+    check(text, memcmp(out, held, sizeof out) != 0, 0);
+}
+
+/* The same for Statement and its numbers. */
+static void states(const char *text, uint32_t index, size_t room, uint64_t answer, const uint32_t *wanted) {
+    uint32_t out[MFL_STATEMENT_ROOM], held[MFL_STATEMENT_ROOM];
+    memset(out, 0xA5, sizeof out);
+    memset(held, 0xA5, sizeof held);
+    if (answer <= UINT32_MAX) memcpy(held, wanted, answer * sizeof *wanted);
+    check(text, mfl_statement(bytes(text), strlen(text), index, out, room), answer);
+    check(text, memcmp(out, held, sizeof out) != 0, 0);
+}
+
+int main(void) {
+    static uint8_t blanks[MFL_TEXT_LIMIT + 1];
+    memset(blanks, ' ', sizeof blanks);
+
+    check("scan", mfl_scan(bytes("IIV($"), 5), 4);
+    check("scan", mfl_scan(bytes("IIV("), 4), 4);
+
+    counts("", 0);
+    counts("LAGTIME(ON);;\n ABSORPTION(*) # two", 2);
+    check("16,384 blanks", mfl_count(blanks, MFL_TEXT_LIMIT), 0);
+    check("16,385 blanks", mfl_count(blanks, MFL_TEXT_LIMIT + 1), refusal(1, 0));
+    counts("ABSORPTION?($)", refusal(2, 12));
+    counts("FOO(", refusal(3, 4));
+    counts("PERIPHERALS(65)", refusal(4, 12));
+    counts("PERIPHERALS(2..1)", refusal(5, 12));
+    counts("LAGTIME(ON);FOO(1)", refusal(6, 12));
+    counts("ABSORPTION?(*)", refusal(7, 0));
+    counts("LAGTIME()", refusal(8, 0));
+    counts("COVARIATE(CL,WT,*)", refusal(9, 16));
+    counts("LAGTIME(MAYBE)", refusal(10, 8));
+
+    prints(" peripherals( 007 ) # x", 23, 14, "PERIPHERALS(7)");
+    prints(" peripherals( 007 ) # x", 14, 14, "PERIPHERALS(7)");
+    prints(" peripherals( 007 ) # x", 13, refusal(19, 0), "");
+    prints("TRANSITS(N,*)", 64, refusal(9, 11), "");
+    prints("", 0, 0, "");
+
+    const char *space = "LET(X,[WT]);COVARIATE?([CL,V],@X,[lin,exp],+);PERIPHERALS(0..2)";
+    states(space, 0, MFL_STATEMENT_ROOM, 9, (uint32_t[]){14, 0, 8, 4, 1, 7, 1, 7, 2});
+    states(space, 1, 16, 16, (uint32_t[]){5, 1, 7, 2, 24, 2, 27, 1, 6, 31, 1, 1, 2, 0, 2, 11});
+    states(space, 1, 15, refusal(19, 0), NULL);
+    states(space, 2, MFL_STATEMENT_ROOM, 6, (uint32_t[]){2, 0, 3, 0, 2, 9});
+    states(space, 3, MFL_STATEMENT_ROOM, refusal(20, 3), NULL);
+    states("LAGTIME(MAYBE)", 7, MFL_STATEMENT_ROOM, refusal(10, 8), NULL);
+
+    printf("%d passed, %d failed\n", passed, failed);
+    return failed != 0;
+}
