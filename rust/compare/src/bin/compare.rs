@@ -30,8 +30,9 @@ mod comparison {
     const BYTE: u8 = 0xa5;
     const NUMBER: u32 = 0xa5a5_a5a5;
 
-    /// How many disagreements end the run.
+    /// How many disagreements end the run, and how many shorter texts are tried of the shortest.
     const ENOUGH: usize = 20;
+    const TRIALS: usize = 5000;
 
     /// What became of a text on which all agree.
     enum Outcome {
@@ -62,7 +63,7 @@ mod comparison {
         let mut kinds: BTreeMap<Kind, Tally> = BTreeMap::new();
         let mut refusals: BTreeMap<u32, u64> = BTreeMap::new();
         let mut statements = 0;
-        let mut differing: Vec<(Vec<u8>, String)> = Vec::new();
+        let mut differing: Vec<Vec<u8>> = Vec::new();
         let mut left = number;
         while left > 0 && differing.len() < ENOUGH {
             left -= 1;
@@ -82,7 +83,7 @@ mod comparison {
                     tally.at_a_limit += 1;
                     *refusals.entry(number).or_default() += 1;
                 }
-                Err(_) => differing.push(smallest(text)),
+                Err(_) => differing.push(text),
             }
         }
 
@@ -93,8 +94,9 @@ mod comparison {
         }
         let refusals: Vec<String> = refusals.iter().map(|(number, times)| format!("{number}: {times}")).collect();
         println!("refused by {}", refusals.join(", "));
-        if let Some((text, why)) = differing.iter().min_by_key(|(text, _)| text.len()) {
-            println!("{} differ; the smallest, {} bytes: {:?}\n  {why}", differing.len(), text.len(), String::from_utf8_lossy(text));
+        if let Some(shortest) = differing.iter().min_by_key(|text| text.len()) {
+            let (text, why) = smallest(shortest.clone());
+            println!("{} differ; the smallest, {} bytes: {:?}\n  {why}", differing.len(), text.len(), String::from_utf8_lossy(&text));
             std::process::exit(1);
         }
         println!("all agree");
@@ -102,12 +104,13 @@ mod comparison {
 
     /// A text that differs, with parts taken out as long as it still does, and how it differs.
     fn smallest(mut text: Vec<u8>) -> (Vec<u8>, String) {
-        let mut part = text.len();
+        let (mut part, mut trials) = (text.len(), 0);
         while part > 0 {
             let mut at = 0;
-            while at < text.len() {
+            while at < text.len() && trials < TRIALS {
                 let mut shorter = text.clone();
                 shorter.drain(at..(at + part).min(text.len()));
+                trials += 1;
                 if held(&shorter).is_err() {
                     text = shorter;
                 } else {
@@ -231,15 +234,9 @@ mod comparison {
 
     /// Whether an accepted text, or the accepted part of one, has an array of more than 64 entries.
     fn has_long_array(text: &[u8]) -> bool {
-        let mut commas = 0;
-        bare(text).iter().any(|byte| {
-            commas = match byte {
-                b'[' | b']' | b'(' => 0,
-                b',' => commas + 1,
-                _ => commas,
-            };
-            commas >= MAX_ENTRIES && *byte == b','
-        })
+        let arrays = bare(text);
+        let mut insides = arrays.split(|&byte| byte == b'[').skip(1).map(|array| array.split(|&byte| byte == b']').next().unwrap_or(array));
+        insides.any(|inside| inside.iter().filter(|&&byte| byte == b',').count() >= MAX_ENTRIES)
     }
 
     /// The number of the entry that would come next in the array at a text's end.
