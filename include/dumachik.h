@@ -1,5 +1,5 @@
 /* Dumachik's calls: MFL texts counted, printed and given by value. `rt staticlib dumachik` proves them and writes
- * target/staticlib/libdumachik.a (x86-64, no other library needed).
+ * target/staticlib/libdumachik.a, for x86-64. Of other libraries it needs memcpy and memset alone.
  *
  * No call allocates, keeps state or copies the text, and none takes a working buffer. Any bytes may be given: a text need not be UTF-8,
  * and bytes of 128 and more may stand only in a comment. A text and an output must not overlap. Where a length is 0 its pointer is not read,
