@@ -133,3 +133,8 @@ impl std::str::FromStr for Mfl {
         Mfl::parse(text)
     }
 }
+
+/// The README's example is run with the tests.
+#[cfg(doctest)]
+#[doc = include_str!("../README.md")]
+struct Readme;
