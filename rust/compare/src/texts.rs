@@ -373,7 +373,7 @@ impl Texts {
         let sort = self.r.below(5);
         let mut bytes: Vec<u8> = (0..n)
             .map(|_| match sort {
-                0 => self.r.next() as u8,
+                0 => self.r.bits() as u8,
                 1 => self.r.between(32, 126) as u8,
                 2 => self.r.pick(b" \t\r\n;"),
                 3 => self.r.pick(b"abcXYZ_-019 ;\n"),

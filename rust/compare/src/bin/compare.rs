@@ -232,11 +232,15 @@ mod comparison {
         lines.collect::<Vec<_>>().join(&b'\n')
     }
 
-    /// Whether an accepted text, or the accepted part of one, has an array of more than 64 entries.
+    /// Whether a text has an array with a 65th word or number.
     fn has_long_array(text: &[u8]) -> bool {
         let arrays = bare(text);
         let mut insides = arrays.split(|&byte| byte == b'[').skip(1).map(|array| array.split(|&byte| byte == b']').next().unwrap_or(array));
-        insides.any(|inside| inside.iter().filter(|&&byte| byte == b',').count() >= MAX_ENTRIES)
+        insides.any(|inside| {
+            let further =
+                inside.split(|&byte| byte == b',').nth(MAX_ENTRIES).and_then(|entry| entry.iter().find(|byte| !b" \t\r".contains(byte)));
+            further.is_some_and(|&byte| byte.is_ascii_alphanumeric() || byte == b'_')
+        })
     }
 
     /// The number of the entry that would come next in the array at a text's end.
@@ -244,13 +248,13 @@ mod comparison {
         bare(text).iter().rev().take_while(|&&byte| byte != b'[').filter(|&&byte| byte == b',').count() + 1
     }
 
-    /// Whether 11 should have come before a refusal: statements or entries over their limit in what is read before it. From 6 on that is the
-    /// whole statement, to its `)`.
+    /// Whether 11 should have come before a refusal: statements over their limit before it, or entries in what is read before it or with it. From
+    /// 6 on that is the whole statement, to its `)`.
     fn limit_before(text: &[u8], refusal: Refusal) -> bool {
-        let before = &text[..refusal.place];
-        let closed = bare(before).iter().filter(|&&byte| byte == b')').count();
-        let whole = text[refusal.place..].iter().position(|&byte| byte == b')').map_or(text.len(), |length| refusal.place + length);
-        let read = if refusal.number() >= 6 { &text[..whole] } else { before };
+        let place = refusal.place;
+        let closed = bare(&text[..place]).iter().filter(|&&byte| byte == b')').count();
+        let whole = text[place..].iter().position(|&byte| byte == b')').map_or(text.len(), |length| place + length);
+        let read = if refusal.number() >= 6 { &text[..whole] } else { &text[..text.len().min(place + 1)] };
         closed >= MAX_STATEMENTS || has_long_array(read)
     }
 
