@@ -1,4 +1,5 @@
 pub mod Pieces
 pub mod Loop
 pub mod Answering
+pub mod Keeping
 pub mod Laws

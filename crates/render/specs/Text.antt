@@ -7,12 +7,15 @@ use lib.ListN.{length}
 use Rattle.tokens.specs.Spelling.{spellAll}
 use Rattle.reading.specs.Statement.{Statement}
 use Rattle.reading.specs.Answer.{Answer, accepted, refused}
-use Rattle.reading.specs.Read.{readText}
 use Rattle.canonical.specs.Canonical.{statementShapes, canonical}
-use Rattle.canonical.specs.Print.{lengthOf, fitting, output}
+use Rattle.canonical.specs.Print.{printText, lengthOf, fitting, output}
 use Rattle.writing.specs.Written.{Written}
+use Rattle.reading.specs.Read.{between, readText}
+use Rattle.statements.specs.Answers.{readAt}
 use Rattle.render.specs.declared.Printed.{Printed}
 use Rattle.render.specs.declared.Printed.the-variants.{Length, Refused}
+use Rattle.render.specs.declared.Kept.{Kept}
+use Rattle.render.specs.declared.Kept.the-variants as kept
 
 -- a text that is read as statements
 pub record Accepted (limit : ℕ) (s : List ℕ) : Type 0 where
@@ -40,3 +43,9 @@ printedAs (Refused r) = refused (r .number) (r .place)
 pub record Answers (a : Answer (List ℕ)) (before after : List ℕ) (r : Printed) : Type 0 where
   pub told : printedAs r ≡ lengthOf (fitting (length before) a)
   pub bytes : after ≡ output (fitting (length before) a) before
+
+-- The answer of printing with the forms kept: nothing is written but a canonical text.
+unfoldable pub KeptAs : ℕ → List ℕ → List ℕ → List ℕ → Kept → Type 0
+KeptAs limit s before after (kept.Length n) = Answers (printText limit s) before after (Length n)
+KeptAs limit s before after (kept.Refused r) = (readAt limit s 0 between 0 ≡ refused (r .number) (r .place)) × (after ≡ before)
+KeptAs limit s before after kept.More = after ≡ before

@@ -1,5 +1,6 @@
 // Print: a text's canonical text, in the caller's buffer.
 ghost use mathlib.Core.Path.{_≡_};
+ghost use Prim.Native.Nat.{_≤_};
 ghost use lib.ListN.{length};
 ghost use Rattle.tokens.specs.Class.{classTable};
 ghost use Rattle.labels.specs.Table.{labelTable, keywordTable};
@@ -7,7 +8,9 @@ ghost use Rattle.forms.specs.Forms.{statementIn};
 ghost use Rattle.canonical.specs.Print.{lengthOf, printText, fitting, output};
 ghost use Rattle.values.specs.Lists.{statementLists, Readable};
 ghost use Rattle.writing.specs.Written.{Room, Written};
-ghost use Rattle.render.specs.Text.{Accepted, pieceOf, jointOf, Prints, printedAs, Answers};
+ghost use Rattle.render.specs.Text.{Accepted, pieceOf, jointOf, Prints, printedAs, Answers, KeptAs};
+use forms::Items;
+use forms::Name;
 use forms::Refusal;
 use forms::Statement;
 use statements::CountRead;
@@ -103,9 +106,143 @@ fn print_accepted(
     Printed::Length(put_text(text, classes, labels, keys, out, limit))
 }
 
-// The canonical text of a text, or why it is refused. Nothing is written before it is known that the text is accepted and that the canonical
-// text has room.
-pub fn print_under(text: &[u8], out: &mut [u8], limit: u32) -> Printed
+// What printing a text comes to whose statements are kept as they are read: its canonical text's length, a refusal, or more statements than
+// there is room to keep.
+pub enum Kept {
+    Length(usize),
+    Refused(Refusal),
+    More,
+}
+
+// A form that stands for none.
+fn no_form() -> Statement {
+    Statement::Let {
+        name: Name {
+            offset: 0,
+            length: 0,
+        },
+        values: Items { first: 0, count: 0 },
+    }
+}
+
+fn few_forms() -> [Statement; 32]
+    ensures { λ r. ⌜ length r ≡ 32 ⌝ }
+{
+    [no_form(); 32]
+}
+
+fn many_forms() -> [Statement; 256]
+    ensures { λ r. ⌜ length r ≡ 256 ⌝ }
+{
+    [no_form(); 256]
+}
+
+// The canonical text of a text of at most 32 statements, read once, in a buffer that is as long as the text. An array's length is a part of
+// its type, and an array for every text would cost a short one more than reading it: so this and `print_many` differ in it alone.
+fn print_few(
+    text: &[u8],
+    classes: &[u8; 256],
+    labels: &[u8; 608],
+    keys: &[u8; 240],
+    out: &mut [u8],
+    limit: u32,
+) -> Kept
+    requires { ⌜ (now classes ≡ classTable) × (now labels ≡ labelTable) × (now keys ≡ keywordTable) × (length (now text) ≤ 16384)
+        × (length (now text) ≤ length (now out)) ⌝ }
+    ensures { λ r. ⌜ KeptAs limit (now (text .entry)) (now (out .entry)) (now (out .exit)) r ⌝ }
+{
+    let mut forms = few_forms();
+    let mut n = 0;
+    let mut cur = 0;
+    loop {
+        match statements::next_statement(text, classes, labels, keys, cur, n, limit) {
+            NextRead::Statement(form, next) => {
+                if 32 <= n {
+                    return Kept::More;
+                }
+                forms[n] = form;
+                cur = next.at;
+                n += 1;
+            }
+            NextRead::End => break,
+            NextRead::Refused(r) => return Kept::Refused(r),
+        }
+    }
+    let mut i = 0;
+    let mut at = 0;
+    while i < n {
+        let form = forms[i];
+        at = put_next(text, classes, labels, keys, i, form, out, at);
+        i += 1;
+    }
+    Kept::Length(at)
+}
+
+// The same for up to 256 statements, as many as a text may have.
+fn print_many(
+    text: &[u8],
+    classes: &[u8; 256],
+    labels: &[u8; 608],
+    keys: &[u8; 240],
+    out: &mut [u8],
+    limit: u32,
+) -> Kept
+    requires { ⌜ (now classes ≡ classTable) × (now labels ≡ labelTable) × (now keys ≡ keywordTable) × (length (now text) ≤ 16384)
+        × (length (now text) ≤ length (now out)) ⌝ }
+    ensures { λ r. ⌜ KeptAs limit (now (text .entry)) (now (out .entry)) (now (out .exit)) r ⌝ }
+{
+    let mut forms = many_forms();
+    let mut n = 0;
+    let mut cur = 0;
+    loop {
+        match statements::next_statement(text, classes, labels, keys, cur, n, limit) {
+            NextRead::Statement(form, next) => {
+                if 256 <= n {
+                    return Kept::More;
+                }
+                forms[n] = form;
+                cur = next.at;
+                n += 1;
+            }
+            NextRead::End => break,
+            NextRead::Refused(r) => return Kept::Refused(r),
+        }
+    }
+    let mut i = 0;
+    let mut at = 0;
+    while i < n {
+        let form = forms[i];
+        at = put_next(text, classes, labels, keys, i, form, out, at);
+        i += 1;
+    }
+    Kept::Length(at)
+}
+
+// The same, by the text's length: few short texts have more than 32 statements.
+fn print_kept(
+    text: &[u8],
+    classes: &[u8; 256],
+    labels: &[u8; 608],
+    keys: &[u8; 240],
+    out: &mut [u8],
+    limit: u32,
+) -> Kept
+    requires { ⌜ (now classes ≡ classTable) × (now labels ≡ labelTable) × (now keys ≡ keywordTable) × (length (now text) ≤ 16384)
+        × (length (now text) ≤ length (now out)) ⌝ }
+    ensures { λ r. ⌜ KeptAs limit (now (text .entry)) (now (out .entry)) (now (out .exit)) r ⌝ }
+{
+    if 512 < text.len() {
+        return print_many(text, classes, labels, keys, out, limit);
+    }
+    match print_few(text, classes, labels, keys, out, limit) {
+        Kept::Length(n) => Kept::Length(n),
+        Kept::Refused(r) => Kept::Refused(r),
+        Kept::More => print_many(text, classes, labels, keys, out, limit),
+    }
+}
+
+// The canonical text of a text, or why it is refused, read once to know that it is accepted and once more to print it.
+fn print_twice(text: &[u8], out: &mut [u8], limit: u32) -> Printed
     ensures { λ r. ⌜ Answers (printText limit (now (text .entry))) (now (out .entry)) (now (out .exit)) r ⌝ }
 {
     match statements::count_under(text, limit) {
@@ -116,6 +253,30 @@ pub fn print_under(text: &[u8], out: &mut [u8], limit: u32) -> Printed
             let keys = labels::KEYWORDS;
             print_accepted(text, &classes, &labels, &keys, out, limit)
         }
+    }
+}
+
+// The canonical text of a text, or why it is refused. Nothing is written before it is known that the text is accepted and that the canonical
+// text has room.
+pub fn print_under(text: &[u8], out: &mut [u8], limit: u32) -> Printed
+    ensures { λ r. ⌜ Answers (printText limit (now (text .entry))) (now (out .entry)) (now (out .exit)) r ⌝ }
+{
+    if 16384 < text.len() {
+        return Printed::Refused(Refusal {
+            number: 1,
+            place: 0,
+        });
+    }
+    if out.len() < text.len() {
+        return print_twice(text, out, limit);
+    }
+    let classes = tokens::CLASSES;
+    let labels = labels::LABELS;
+    let keys = labels::KEYWORDS;
+    match print_kept(text, &classes, &labels, &keys, out, limit) {
+        Kept::Length(n) => Printed::Length(n),
+        Kept::Refused(_) => print_twice(text, out, limit),
+        Kept::More => print_twice(text, out, limit),
     }
 }
 

@@ -1,0 +1,192 @@
+-- Statements that are kept as they are read, and printed one after the other once all are there.
+-- Assumes nothing.
+use mathlib.Core.Path.{_≡_, refl, _∙_, ap, sym, subst}
+use mathlib.Core.Bool.{true}
+use mathlib.Core.List.{List, [], _∷_, _++_, map, map-append}
+use Prim.Native.Nat.{ℕ, suc, _+_, _≤_, _<_}
+use native.Mathlib.Numerals.{add-one}
+use native.Mathlib.Omega.{arith}
+use lib.ListN.{length, take, set, getD, length-set}
+use lib.Seq.{take-suc-set, slice, slice-cons, slice-empty}
+use Rattle.token_laws.specs.Shaped.{all}
+use Rattle.token_laws.proofs.Tests.{and-left, and-right}
+use Rattle.reading.specs.Statement.{Statement}
+use Rattle.reading.specs.Answer.{Answer, accepted, refused}
+use Rattle.reading.specs.Read.{between, prepend, readText}
+use Rattle.reading_laws.specs.WellFormed.{wellFormed}
+use Rattle.reading_laws.proofs.WellRead.{text-well-formed}
+use Rattle.canonical.specs.Canonical.{canonical}
+use Rattle.canonical.specs.Print.{printText}
+use Rattle.canonical_laws.proofs.Shorter.{not-longer}
+use Rattle.forms.specs.declared.Statement as form
+use Rattle.forms.specs.Forms.{statementIn}
+use Rattle.statements.specs.Answers.{readAt, counted, FirstFault}
+use Rattle.statements.proofs.Texts.{counted-text}
+use Rattle.values.specs.Lists.{statementLists, Readable}
+use Rattle.values.proofs.Readable.{statement-readable}
+use Rattle.writing.specs.Written.{Room, Written}
+use Rattle.writing.proofs.Going.{Going, going, told, further, no-more, room-first}
+use Rattle.forms.specs.declared.Refusal.{Refusal}
+use Rattle.render.specs.declared.Printed.{Printed}
+use Rattle.render.specs.declared.Printed.the-variants as printed
+use Rattle.render.specs.declared.Kept.{Kept}
+use Rattle.render.specs.declared.Kept.the-variants.{Refused, More}
+use Rattle.render.specs.Text.{pieceOf, Answers, KeptAs}
+use Rattle.render.proofs.Pieces.{restOf, canonical-pieces}
+use Rattle.render.proofs.Loop.{canonical-short}
+use Rattle.render.proofs.Answering.{refused-answers, room-answers}
+
+-- statements in front of an answer
+abbrev pub prependAll : List Statement → Answer (List Statement) → Answer (List Statement)
+prependAll [] a = a
+prependAll (x ∷ xs) a = prepend x (prependAll xs a)
+
+prepend-last : (xs : List Statement) (y : Statement) (a : Answer (List Statement)) → prependAll (xs ++ y ∷ []) a ≡ prependAll xs (prepend y a)
+prepend-last [] y a = refl
+prepend-last (x ∷ xs) y a = ap (prepend x) (prepend-last xs y a)
+
+prepend-none : (xs : List Statement) → prependAll xs (accepted []) ≡ accepted xs
+prepend-none [] = refl
+prepend-none (x ∷ xs) = ap (prepend x) (prepend-none xs)
+
+prepend-refused : (xs : List Statement) (k p : ℕ) → prependAll xs (refused k p) ≡ refused k p
+prepend-refused [] k p = refl
+prepend-refused (x ∷ xs) k p = ap (prepend x) (prepend-refused xs k p)
+
+-- the statements that the first so many forms stand for
+abbrev pub firstOnes : List ℕ → ℕ → List form.Statement → List Statement
+firstOnes s n forms = map (statementIn s) (take n forms)
+
+-- So many statements were read, and their forms are kept.
+pub record Keeping (limit : ℕ) (s : List ℕ) (forms : List form.Statement) (n cur : ℕ) : Type 0 where
+  pub read : readAt limit s 0 between 0 ≡ prependAll (firstOnes s n forms) (readAt limit s n between cur)
+  pub few : n ≤ cur
+  pub held : n ≤ length forms
+
+pub none-kept : (limit : ℕ) (s : List ℕ) (forms : List form.Statement) → Keeping limit s forms 0 0
+none-kept limit s forms = record { read = refl; few = omega arith; held = omega arith }
+
+module _ {limit : ℕ} {s : List ℕ} {forms : List form.Statement} {n cur : ℕ} (g : Keeping limit s forms n cur) where
+  -- one more
+  pub one-kept :
+      (f : form.Statement) (p : ℕ)
+      → readAt limit s n between cur ≡ prepend (statementIn s f) (readAt limit s (suc n) between p)
+      → n < length forms
+      → cur < p
+      → Keeping limit s (set forms n f) (n + 1) p
+  one-kept f p e h q =
+      subst (λ (k : ℕ). Keeping limit s (set forms n f) k p) (sym (add-one n))
+      (record {
+        read =
+            g .read
+            ∙ ap (prependAll (firstOnes s n forms)) e
+            ∙ sym (prepend-last (firstOnes s n forms) (statementIn s f) _)
+            ∙ ap (λ (l : List Statement). prependAll l (readAt limit s (suc n) between p))
+              (sym (ap (map (statementIn s)) (take-suc-set forms n f h) ∙ map-append (statementIn s) (take n forms) (f ∷ [])));
+        few = omega (arith, g .few);
+        held = omega (arith, length-set forms n f);
+      })
+
+  -- a refusal is the text's
+  pub refused-then : (k p : ℕ) → readAt limit s n between cur ≡ refused k p → readAt limit s 0 between 0 ≡ refused k p
+  refused-then k p e = g .read ∙ ap (prependAll (firstOnes s n forms)) e ∙ prepend-refused (firstOnes s n forms) k p
+
+  -- the end: these are all
+  pub accepted-then : length s ≤ 16384 → readAt limit s n between cur ≡ accepted [] → readText limit s ≡ accepted (firstOnes s n forms)
+  accepted-then h e =
+      let r : readAt limit s 0 between 0 ≡ accepted (firstOnes s n forms) =
+          g .read ∙ ap (prependAll (firstOnes s n forms)) e ∙ prepend-none (firstOnes s n forms) in
+      counted-text limit s h _ (ap (counted 0) r) ∙ r
+
+-- Of the statements that are kept so many are printed, and the others are left.
+pub record Putting (limit : ℕ) (s before now : List ℕ) (forms : List form.Statement) (n i at : ℕ) : Type 0 where
+  pub read : readText limit s ≡ accepted (firstOnes s n forms)
+  pub well : all (wellFormed limit) (map (statementIn s) (slice i n forms)) ≡ true
+  pub gone : Going before 0 (canonical (firstOnes s n forms)) now at (restOf i (map (statementIn s) (slice i n forms)))
+  pub held : n ≤ length forms
+  pub most : i ≤ n
+
+pub none-put :
+    (limit : ℕ) (s before : List ℕ) (forms : List form.Statement) (n : ℕ)
+    → readText limit s ≡ accepted (firstOnes s n forms)
+    → n ≤ length forms
+    → Putting limit s before before forms n 0 0
+none-put limit s before forms n e h =
+    record {
+      read = e;
+      well = text-well-formed limit s (firstOnes s n forms) e;
+      gone = told (canonical-pieces (firstOnes s n forms)) (going before 0 (canonical (firstOnes s n forms)));
+      held = h;
+      most = omega arith;
+    }
+
+module _ {limit : ℕ} {s before now : List ℕ} {forms : List form.Statement} {n i at : ℕ} (g : Putting limit s before now forms n i at) where
+  module _ (d : form.Statement) (h : i < n) where
+    abbrev this : form.Statement
+    this = getD forms i d
+
+    left : map (statementIn s) (slice i n forms) ≡ statementIn s this ∷ map (statementIn s) (slice (suc i) n forms)
+    left = ap (map (statementIn s)) (slice-cons i n forms d h (g .held))
+
+    well-left : all (wellFormed limit) (statementIn s this ∷ map (statementIn s) (slice (suc i) n forms)) ≡ true
+    well-left = sym (ap (all (wellFormed limit)) left) ∙ g .well
+
+    gone-left :
+        Going before 0 (canonical (firstOnes s n forms)) now at
+        (pieceOf i (statementIn s this) ++ restOf (suc i) (map (statementIn s) (slice (suc i) n forms)))
+    gone-left = told (ap (restOf i) left) (g .gone)
+
+    pub this-readable : Readable s (statementLists (getD forms i d))
+    this-readable = statement-readable s limit this (and-left (wellFormed limit (statementIn s this)) _ well-left)
+
+    pub this-room : Room at (pieceOf i (statementIn s (getD forms i d)))
+    this-room = room-first (pieceOf i (statementIn s this)) _ (canonical-short limit s (firstOnes s n forms) (g .read)) gone-left
+
+    pub one-put :
+        {now' : List ℕ} {at' : ℕ}
+        → Written now at (pieceOf i (statementIn s (getD forms i d))) now' at'
+        → Putting limit s before now' forms n (i + 1) at'
+    one-put {now'} {at'} w =
+        subst (λ (k : ℕ). Putting limit s before now' forms n k at') (sym (add-one i))
+        (record {
+          read = g .read;
+          well = and-right (wellFormed limit (statementIn s this)) _ well-left;
+          gone = further gone-left w;
+          held = g .held;
+          most = omega (arith, h);
+        })
+
+  -- all are printed
+  pub all-put : n ≤ i → length s ≤ length before → Answers (printText limit s) before now (printed.Length at)
+  all-put h q =
+      let e : i ≡ n = omega (arith, h, g .most) in
+      let z : restOf i (map (statementIn s) (slice i n forms)) ≡ [] =
+          ap (λ (k : ℕ). restOf i (map (statementIn s) (slice k n forms))) e
+          ∙ ap (λ (l : List form.Statement). restOf i (map (statementIn s) l)) (slice-empty n forms) in
+      room-answers limit s before now (firstOnes s n forms) (g .read) at
+      (omega (arith, not-longer limit s (firstOnes s n forms) (g .read), q))
+      (no-more (told z (g .gone)))
+
+-- where nothing was printed, the buffer is as it was, and what is printed next is the answer
+module _ {limit : ℕ} {s before mid after : List ℕ} (g : KeptAs limit s before mid More) where
+  same-buffer : mid ≡ before
+  unfolding KeptAs
+  same-buffer = g
+
+  pub kept-next : {r : Kept} → KeptAs limit s mid after r → KeptAs limit s before after r
+  kept-next {r} h = subst (λ (b : List ℕ). KeptAs limit s b after r) same-buffer h
+
+  pub answers-next : {r : Printed} → Answers (printText limit s) mid after r → Answers (printText limit s) before after r
+  answers-next {r} h = subst (λ (b : List ℕ). Answers (printText limit s) b after r) same-buffer h
+
+-- a refusal of the reading is the text's, once a byte that starts no token was looked for
+pub refused-next :
+    {limit : ℕ} {s before after : List ℕ} (x r : Refusal)
+    → KeptAs limit s before after (Refused x)
+    → length s ≤ 16384
+    → FirstFault s x r
+    → Answers (printText limit s) before after (printed.Refused r)
+unfolding KeptAs
+refused-next {limit} {s} {before} {after} x r g h f =
+    subst (λ (b : List ℕ). Answers (printText limit s) before b (printed.Refused r)) (sym (g .1))
+    (refused-answers limit s before r (f limit h (g .0)))

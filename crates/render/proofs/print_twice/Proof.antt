@@ -1,0 +1,58 @@
+-- `render::print_twice` meets its contract: what Count refuses is refused, and else the statements are printed. Assumes nothing.
+use mathlib.Core.Path.{refl, _∙_, ap, sym}
+use denote.Ref.{now}
+use borrow.Author.Needs.{needs}
+use Rattle.tokens.specs.Class.{classOf, classTable}
+use Rattle.labels.specs.Label.{labelsOf, keywords}
+use Rattle.labels.specs.Table.{labelTable, keywordTable}
+use Rattle.reading.specs.Read.{readText}
+use Rattle.statements.specs.Answers.{countAs}
+use Rattle.statements.proofs.Whole.{counted-accepted, counted-refused}
+use Rattle.render.proofs.Answering.{refused-answers}
+use Rattle.render.proofs.print_twice.Statement.{statement}
+use Rattle.render.proofs.print_twice.Tie as tie
+
+count-under-requires : tie.Need-count-under-requires
+count-under-requires c κs = search needs
+
+enum-known-r : tie.Need-enum-known-r
+enum-known-r c = search needs
+
+enum-told : tie.Need-enum-told
+enum-told c = search needs
+
+print-accepted-requires : tie.Need-print-accepted-requires
+unfolding classTable classOf labelTable labelsOf keywordTable keywords countAs
+print-accepted-requires c κs =
+    let e = c .before .before .before .before in
+    let d = e .before .before in
+    let a = d .before .before .before .args in
+    let x = counted-accepted 0 _ (readText (a .limit) (now (a .text))) (sym (d .count-under .ensures) ∙ ap countAs (e .enum-told .given .1)) in
+    (refl, refl, refl, record { statements = x .0; read = x .1 })
+
+returns : tie.Need-returns
+unfolding countAs
+returns c =
+    let d = c .before .before .before in
+    let a = d .before .before .before .args in
+    let r = c .before .r .given in
+    refused-answers (a .limit) (now (a .text)) _ (r .0 .0)
+    (counted-refused 0 (r .0 .0 .number) (r .0 .0 .place) (readText (a .limit) (now (a .text))) (sym (d .count-under .ensures) ∙ ap countAs (r .1)))
+
+same-length : tie.Need-same-length
+same-length c = search needs
+
+returns-2 : tie.Need-returns-2
+returns-2 c = search needs
+
+pub print-twice-spec : {M : Type 1} → statement M
+print-twice-spec =
+    tie.close
+    (tie.spec
+    count-under-requires
+    enum-known-r
+    enum-told
+    print-accepted-requires
+    returns
+    same-length
+    returns-2)
