@@ -3,3 +3,4 @@ pub mod Finding
 pub mod Distinct
 pub mod Tables
 pub mod Scanning
+pub mod OneKeyword

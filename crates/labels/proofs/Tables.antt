@@ -21,7 +21,7 @@ row-within t i h =
     (leb-true _ _ (p .0), leb-true _ _ (p .1))
 
 -- the row k after the next one is the row one more after this one
-one-on : (i k : ℕ) → suc i + k ≡ i + suc k
+pub one-on : (i k : ℕ) → suc i + k ≡ i + suc k
 one-on i k = omega arith
 
 pub row-fits : (t : List ℕ) (i n k : ℕ) → rowsFit t i n ≡ true → k < n → rowFits t (i + k) ≡ true

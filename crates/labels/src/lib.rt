@@ -8,6 +8,7 @@ ghost use Rattle.labels.specs.Word.{lower, sameWord, find};
 ghost use Rattle.labels.specs.Label.{labelsOf, keywords};
 ghost use Rattle.labels.specs.Table.{labelTable, keywordTable, foundAs};
 ghost use Rattle.labels.specs.Row.{labelAt, labelsIn, rowFits, rowsFit, Holds};
+ghost use Rattle.labels.specs.Likely.{likelyPlace};
 
 // The mode families of the grammar.
 pub enum Family {
@@ -103,6 +104,7 @@ fn lower_byte(b: u8) -> u8
 }
 
 // Whether two words are the same, ignoring case. The lengths are compared before the bytes: most labels differ from a word there already.
+// Bytes are compared as they are before their lower cases: most words that are a label are spelled as it is.
 pub fn same_word(word: &[u8], label: &[u8]) -> bool
     ensures { λ r. ⌜ r ≡ sameWord (now (word .entry)) (now (label .entry)) ⌝ }
 {
@@ -111,10 +113,12 @@ pub fn same_word(word: &[u8], label: &[u8]) -> bool
     }
     let mut i = 0;
     while i < word.len() {
-        let a = lower_byte(word[i]);
-        let b = lower_byte(label[i]);
+        let a = word[i];
+        let b = label[i];
         if a != b {
-            return false;
+            if lower_byte(a) != lower_byte(b) {
+                return false;
+            }
         }
         i += 1;
     }
@@ -133,7 +137,7 @@ fn label_at(table: &[u8], row: usize) -> &[u8]
     &table[start..end]
 }
 
-// The place of a word among the labels of some rows, for both tables.
+// The place of a word among the labels of some rows.
 fn find_rows(table: &[u8], first: usize, count: usize, word: &[u8]) -> Found
     requires { ⌜ rowsFit (now table) first count ≡ true ⌝ }
     ensures { λ r. ⌜ r ≡ foundAs (find (now (word .entry)) (labelsIn (now (table .entry)) first count)) ⌝ }
@@ -181,12 +185,52 @@ pub fn find_mode(labels: &[u8; 608], family: Family, word: &[u8]) -> Found
     find_rows(labels, rows.0, rows.1, word)
 }
 
-// The place of a keyword, in the table that the outermost caller lends.
+// The place of the one keyword that a word with so many bytes and this second letter, in lower case, can be.
+fn likely(count: usize, second: u8) -> usize
+    ensures { λ r. ⌜ r ≡ likelyPlace count second ⌝ }
+{
+    match count {
+        3 => match second {
+            b'i' => 11,
+            b'o' => 12,
+            _ => 14,
+        },
+        7 => 4,
+        8 => 3,
+        9 => match second {
+            b'o' => 5,
+            _ => 6,
+        },
+        10 => match second {
+            b'b' => 0,
+            b'f' => 8,
+            b'e' => 10,
+            _ => 13,
+        },
+        11 => match second {
+            b'l' => 1,
+            _ => 2,
+        },
+        12 => 7,
+        _ => 9,
+    }
+}
+
+// The place of a keyword, in the table that the outermost caller lends. At most one row is compared: no two keywords have both their length
+// and their second letter in common.
 pub fn find_keyword(keys: &[u8; 240], word: &[u8]) -> Found
     requires { ⌜ now keys ≡ keywordTable ⌝ }
     ensures { λ r. ⌜ r ≡ foundAs (find (now (word .entry)) keywords) ⌝ }
 {
-    find_rows(keys, 0, 15, word)
+    if word.len() < 3 {
+        return Found::Nothing;
+    }
+    let place = likely(word.len(), lower_byte(word[1]));
+    let label = label_at(keys, place);
+    if same_word(word, label) {
+        return Found::Place(place);
+    }
+    Found::Nothing
 }
 
 // The label of a mode, as a part of the table.

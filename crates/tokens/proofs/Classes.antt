@@ -93,6 +93,12 @@ comment-run b =
     by-number (λ n. leb 1 n && leb n 9) (λ n. not (eqb n 0))
     refl refl refl refl refl refl refl refl refl refl (classOf b)
 
+-- a class's number is at most a letter's
+pub class-most : (b : ℕ) → classNumber b ≤ 9
+class-most b =
+    leb-true (classNumber b) 9
+    (by-number (λ n. leb n 9) (λ n. true) refl refl refl refl refl refl refl refl refl refl (classOf b))
+
 -- a mark is no point, so it is one byte wide
 point : (b : ℕ) → (t : Bool) → is "." b ≡ t → classOf b ≡ mark → t ≡ false
 unfolding classOf
@@ -117,9 +123,7 @@ pub starts-none :
     → (classNumber b ≡ 9 → ⊥)
     → (6 ≤ classNumber b) × (classNumber b ≤ 7)
 starts-none b a m d s n l =
-    let most : classNumber b ≤ 9 =
-    leb-true (classNumber b) 9
-    (by-number (λ k. leb k 9) (λ k. true) refl refl refl refl refl refl refl refl refl refl (classOf b)) in
+    let most : classNumber b ≤ 9 = class-most b in
     let six : 6 ≤ classNumber b = least (classNumber b) s (omega arith) in
     (six, omega arith)
 

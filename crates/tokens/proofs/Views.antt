@@ -197,6 +197,11 @@ known-as s o End r = theEnd refl r refl refl
 pub known : (s : List ℕ) (o : ℕ) (t : kinds.Token) → t ≡ tokenAt s o → Known s o t
 known s o t e = subst (Known s o) (sym e) (known-as s o (first (from s o)) (told s o (first (from s o)) refl))
 
+-- a token of one shape or another at an offset or after it
+pub record ReadsOne (s : List ℕ) (o n : ℕ) : Type 0 where
+  pub token : Token
+  pub reads : Reads s o token n
+
 module _ {s : List ℕ} {o : ℕ} {t : kinds.Token} where
   pub known-word : Known s o t → t .kind ≡ 0 → Reads s o (token (t .start) (shapes.word (part s (t .start) (t .next .at)))) (t .next .at)
   known-word (aWord e r) k = r
@@ -225,3 +230,17 @@ module _ {s : List ℕ} {o : ℕ} {t : kinds.Token} where
   known-end (aMark e r) k = absurd (omega arith)
   known-end (aStray e r q) k = absurd (omega arith)
   known-end (theEnd e r l q) k = r
+
+  pub known-stray : Known s o t → t .kind ≡ 2 → from s o ≡ bad (t .start)
+  known-stray (aWord e r) k = absurd (omega arith)
+  known-stray (aNumber e r) k = absurd (omega arith)
+  known-stray (aMark e r) k = absurd (omega arith)
+  known-stray (aStray e r q) k = r
+  known-stray (theEnd e r l q) k = absurd (omega arith)
+
+  pub known-token : Known s o t → (t .kind ≡ 2 → ⊥) → (t .kind ≡ 3 → ⊥) → ReadsOne s o (t .next .at)
+  known-token (aWord e r) a b = record { token = _; reads = r }
+  known-token (aNumber e r) a b = record { token = _; reads = r }
+  known-token (aMark e r) a b = record { token = _; reads = r }
+  known-token (aStray e r q) a b = absurd (a e)
+  known-token (theEnd e r l q) a b = absurd (b e)

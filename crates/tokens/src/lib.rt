@@ -95,6 +95,21 @@ fn run_end(text: &[u8], classes: &[u8; 256], at: usize, lo: u8, hi: u8) -> usize
     i
 }
 
+// The offset after a word whose first letter stands just before `at`: hyphens, digits and letters are the last classes.
+fn word_end(text: &[u8], classes: &[u8; 256], at: usize) -> usize
+    requires { ⌜ (now classes ≡ classTable) × (at ≤ length (now text)) ⌝ }
+    ensures { λ r. ⌜ r ≡ at + span (classBetween 7 9) (drop at (now (text .entry))) ⌝ }
+{
+    let mut i = at;
+    while i < text.len() {
+        if class_at(text, classes, i) < 7 {
+            return i;
+        }
+        i += 1;
+    }
+    i
+}
+
 // The offset after a number whose first digit stands just before `at`.
 fn number_end(text: &[u8], classes: &[u8; 256], at: usize) -> usize
     requires { ⌜ (now classes ≡ classTable) × (at ≤ length (now text)) ⌝ }
@@ -201,7 +216,7 @@ impl Cursor {
                 }
             }
             9 => {
-                let at = run_end(text, classes, after, 7, 9);
+                let at = word_end(text, classes, after);
                 Lexed::Word {
                     start,
                     next: Cursor { at },
@@ -213,8 +228,8 @@ impl Cursor {
 }
 
 impl Cursor {
-    // The same token, by its kind.
-    pub fn token(self, text: &[u8], classes: &[u8; 256]) -> Token
+    // The token at the cursor, or after the blanks and comments there.
+    pub fn token_after_blanks(self, text: &[u8], classes: &[u8; 256]) -> Token
         requires { ⌜ now classes ≡ classTable ⌝ }
         ensures { λ r. ⌜ r ≡ tokenAt (now (text .entry)) (self .at) ⌝ }
     {
@@ -246,6 +261,44 @@ impl Cursor {
             },
         }
     }
+
+    // The same; most tokens that are no mark are words at the cursor.
+    fn word_or_later(self, text: &[u8], classes: &[u8; 256]) -> Token
+        requires { ⌜ now classes ≡ classTable ⌝ }
+        ensures { λ r. ⌜ r ≡ tokenAt (now (text .entry)) (self .at) ⌝ }
+    {
+        let at = self.at;
+        if at < text.len() {
+            if class_at(text, classes, at) == 9 {
+                let end = word_end(text, classes, at + 1);
+                return Token {
+                    kind: 0,
+                    start: at,
+                    next: Cursor { at: end },
+                };
+            }
+        }
+        self.token_after_blanks(text, classes)
+    }
+
+    // The same. Marks and words that stand at the cursor are answered without a call of `next`; all else goes the long way.
+    pub fn token(self, text: &[u8], classes: &[u8; 256]) -> Token
+        requires { ⌜ now classes ≡ classTable ⌝ }
+        ensures { λ r. ⌜ r ≡ tokenAt (now (text .entry)) (self .at) ⌝ }
+    {
+        let at = self.at;
+        if at < text.len() {
+            let byte = text[at];
+            if class_at(text, classes, at) == 2 {
+                return Token {
+                    kind: byte,
+                    start: at,
+                    next: Cursor { at: at + 1 },
+                };
+            }
+        }
+        self.word_or_later(text, classes)
+    }
 }
 
 // Whether each byte of the text stands in a token, a blank or a comment, or which is the first that does not.
@@ -256,17 +309,15 @@ pub fn scan(text: &[u8], classes: &[u8; 256]) -> Scanned
     let mut at = 0;
     loop {
         let c = Cursor { at };
-        match c.next(text, classes) {
-            Lexed::Word { start: _, next } => at = next.at,
-            Lexed::Number { start: _, next } => at = next.at,
-            Lexed::Mark {
-                mark: _,
-                start: _,
-                next,
-            } => at = next.at,
-            Lexed::Bad { start } => return Scanned::Stray(start),
-            Lexed::End => return Scanned::Whole,
+        let token = c.token(text, classes);
+        if token.kind == 2 {
+            return Scanned::Stray(token.start);
         }
+        if token.kind == 3 {
+            return Scanned::Whole;
+        }
+        let next = token.next;
+        at = next.at;
     }
 }
 

@@ -57,8 +57,8 @@ dots-requires c κs = search needs
 number-end-requires : tie.Need-number-end-requires
 number-end-requires c κs = search needs
 
-run-end-requires : tie.Need-run-end-requires
-run-end-requires c κs = search needs
+word-end-requires : tie.Need-word-end-requires
+word-end-requires c κs = search needs
 
 returns-2 : tie.Need-returns-2
 unfolding text start
@@ -83,7 +83,7 @@ unfolding text start
 returns-5 c =
     let d = c .before .before in
     told d
-    (first-word (text d) (start d) (inside d) (c .run-end .result) (c .run-end .ensures)
+    (first-word (text d) (start d) (inside d) (c .word-end .result) (c .word-end .ensures)
     (sym (d .class-at .ensures) ∙ c .before .match .keys4))
 
 returns-6 : tie.Need-returns-6
@@ -114,7 +114,7 @@ next-spec =
     add-after
     dots-requires
     number-end-requires
-    run-end-requires
+    word-end-requires
     returns-2
     returns-3
     returns-4
