@@ -51,10 +51,14 @@ pub record FirstToken (s : List ℕ) (o : ℕ) (t : lexer.Token) : Type 0 where
 abbrev pub crowdedBy : lexer.Token → ℕ → Refusal
 crowdedBy t n = record { number = cond (eqb (t .kind) 2) 2 (cond (leb 256 n) 11 3); place = t .start }
 
--- what stands behind a statement
+-- what stands behind a statement, and where: from there on the next statement is sought
 unfoldable pub EndedThen : ℕ → List ℕ → ℕ → ℕ → Ended → Type 0
-EndedThen limit s n o ended.Fine = readAt limit s n Where.ended o ≡ readAt limit s n between o
+EndedThen limit s n o (ended.Fine c) = readAt limit s n Where.ended o ≡ readAt limit s n between (c .at)
 EndedThen limit s n o (ended.Refused r) = readAt limit s n Where.ended o ≡ refused (r .number) (r .place)
+
+unfoldable pub EndedFurther : List ℕ → ℕ → Ended → Type 0
+EndedFurther s o (ended.Fine c) = (o ≤ length s → o ≤ c .at) × (c .at ≤ length s)
+EndedFurther s o (ended.Refused r) = Unit {0}
 
 -- the next statement with what follows it, or the text's end
 unfoldable pub nextThen : ℕ → List ℕ → ℕ → NextRead → Answer (List Statement)

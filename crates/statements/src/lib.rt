@@ -16,7 +16,7 @@ ghost use Rattle.reading.specs.Read.{between, readText};
 ghost use Rattle.forms.specs.Items.{nameIn};
 ghost use Rattle.forms.specs.Fits.{InText};
 ghost use Rattle.arguments.specs.Answers.{readIn, stepIn};
-ghost use Rattle.statements.specs.Answers.{statementThen, StatementFurther, FirstToken, EndedThen, crowdedBy, readAt, nextThen, NextFurther, counted, countAs, nthOf, statementAs};
+ghost use Rattle.statements.specs.Answers.{statementThen, StatementFurther, FirstToken, EndedThen, EndedFurther, crowdedBy, readAt, nextThen, NextFurther, counted, countAs, nthOf, statementAs};
 use calls::FeatureRead;
 use calls::LetRead;
 use checks::ItemsRead;
@@ -34,9 +34,9 @@ pub enum StatementRead {
     Refused(Refusal),
 }
 
-// Whether a statement may end where it does.
+// Whether a statement may end where it does, with the cursor at what stands behind it: there reading goes on.
 pub enum Ended {
-    Fine,
+    Fine(Cursor),
     Refused(Refusal),
 }
 
@@ -154,18 +154,20 @@ fn first_token(text: &[u8], classes: &[u8; 256], at: usize) -> Token
     }
 }
 
-// What stands behind the statement that is the `n`th: a separator, or the text's end.
+// What stands behind the statement that is the `n`th: a separator, or the text's end. The blanks and the comment before it are passed, so
+// that the next statement is not sought through them again.
 fn behind(text: &[u8], classes: &[u8; 256], at: usize, n: usize) -> Ended
     requires { ⌜ now classes ≡ classTable ⌝ }
     ensures { λ r. ⌜ ((limit : ℕ) → EndedThen limit (now (text .entry)) n at r) ⌝ }
+    ensures { λ r. ⌜ EndedFurther (now (text .entry)) at r ⌝ }
 {
     let c = Cursor { at };
     let token = c.token(text, classes);
     if token.kind == b';' {
-        return Ended::Fine;
+        return Ended::Fine(Cursor { at: token.start });
     }
     if token.kind == 3 {
-        return Ended::Fine;
+        return Ended::Fine(Cursor { at: token.start });
     }
     Ended::Refused(crowded(token, n))
 }
@@ -220,7 +222,7 @@ pub fn next_statement(
     let name = arguments::named(token);
     match statement(text, classes, labels, keys, name, next.at, limit) {
         StatementRead::Statement(form, c) => match behind(text, classes, c.at, n + 1) {
-            Ended::Fine => NextRead::Statement(form, c),
+            Ended::Fine(d) => NextRead::Statement(form, d),
             Ended::Refused(r) => NextRead::Refused(r),
         },
         StatementRead::Refused(r) => NextRead::Refused(r),
