@@ -10,7 +10,7 @@ use Rattle.tokens.specs.declared.Token as lexer
 use Rattle.tokens.specs.Next.{tokenAt}
 use Rattle.reading.specs.Statement.{Statement}
 use Rattle.reading.specs.Answer.{Answer, accepted, refused}
-use Rattle.reading.specs.Read.{Where, between, prepend, readFrom}
+use Rattle.reading.specs.Read.{Where, between, prepend, readFrom, readText}
 use Rattle.reading.specs.One.{One, whole, halted}
 use Rattle.forms.specs.declared.Refusal.{Refusal}
 use Rattle.forms.specs.Items.{tokensFrom}
@@ -70,6 +70,14 @@ unfoldable pub NextFurther : List ℕ → ℕ → NextRead → Type 0
 NextFurther s o (nextRead.Statement f c) = (o < c .at) × (c .at ≤ length s)
 NextFurther s o nextRead.End = Unit {0}
 NextFurther s o (nextRead.Refused r) = Unit {0}
+
+-- what the refusal of a text's statements is for the whole text, where that is not too long
+abbrev pub FirstFault : List ℕ → Refusal → Refusal → Type 0
+FirstFault s x r =
+    (limit : ℕ)
+    → length s ≤ 16384
+    → readAt limit s 0 between 0 ≡ refused (x .number) (x .place)
+    → readText limit s ≡ refused (r .number) (r .place)
 
 -- how many statements there are, after so many
 abbrev pub counted : ℕ → Answer (List Statement) → Answer ℕ

@@ -16,7 +16,7 @@ ghost use Rattle.reading.specs.Read.{between, readText};
 ghost use Rattle.forms.specs.Items.{nameIn};
 ghost use Rattle.forms.specs.Fits.{InText};
 ghost use Rattle.arguments.specs.Answers.{readIn, stepIn};
-ghost use Rattle.statements.specs.Answers.{statementThen, StatementFurther, FirstToken, EndedThen, EndedFurther, crowdedBy, readAt, nextThen, NextFurther, counted, countAs, nthOf, statementAs};
+ghost use Rattle.statements.specs.Answers.{statementThen, StatementFurther, FirstToken, EndedThen, EndedFurther, crowdedBy, readAt, nextThen, NextFurther, FirstFault, counted, countAs, nthOf, statementAs};
 use calls::FeatureRead;
 use calls::LetRead;
 use checks::ItemsRead;
@@ -254,7 +254,21 @@ fn count_from(
     }
 }
 
-// The number of statements of a text, or why it is refused. A refusal is looked at again: a byte that starts no token comes before it.
+// The refusal of a text whose statements were refused: a byte that starts no token comes before every other fault but the length.
+pub fn earliest(text: &[u8], classes: &[u8; 256], refusal: Refusal) -> Refusal
+    requires { ⌜ now classes ≡ classTable ⌝ }
+    ensures { λ r. ⌜ FirstFault (now (text .entry)) refusal r ⌝ }
+{
+    match tokens::scan(text, classes) {
+        Scanned::Stray(at) => Refusal {
+            number: 2,
+            place: at,
+        },
+        Scanned::Whole => refusal,
+    }
+}
+
+// The number of statements of a text, or why it is refused.
 pub fn count_under(text: &[u8], limit: u32) -> CountRead
     ensures { λ r. ⌜ countAs r ≡ counted 0 (readText limit (now (text .entry))) ⌝ }
 {
@@ -269,13 +283,7 @@ pub fn count_under(text: &[u8], limit: u32) -> CountRead
     let keys = labels::KEYWORDS;
     match count_from(text, &classes, &labels, &keys, limit) {
         CountRead::Count(n) => CountRead::Count(n),
-        CountRead::Refused(r) => match tokens::scan(text, &classes) {
-            Scanned::Stray(at) => CountRead::Refused(Refusal {
-                number: 2,
-                place: at,
-            }),
-            Scanned::Whole => CountRead::Refused(r),
-        },
+        CountRead::Refused(r) => CountRead::Refused(earliest(text, &classes, r)),
     }
 }
 
