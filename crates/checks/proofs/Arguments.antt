@@ -3,7 +3,6 @@
 use mathlib.Core.Path.{_≡_, refl, _∙_, sym}
 use mathlib.Core.Bool.{Bool, true, false, cond, and-true}
 use mathlib.Core.List.{List, [], _∷_, map}
-use mathlib.Core.Option.{Option, some, none}
 use Prim.Native.Nat.{ℕ, _+_, _<_, _≤_}
 use native.Mathlib.Omega.{arith}
 use lib.Dec.{eqb, leb}
@@ -12,30 +11,41 @@ use lib.Seq.{drop-cons, length-take-le}
 use borrow.Author.Tests.{leb-true, ne-eqb}
 use Rattle.text.specs.Bytes.{bytes, between}
 use Rattle.labels.specs.declared.Family.{Family}
+use Rattle.labels.specs.declared.Found.{Found}
+use Rattle.labels.specs.declared.Found.the-variants.{Place, Nothing}
 use Rattle.labels.specs.Word.{lower, sameWord, find}
 use Rattle.labels.specs.Label.{labelsOf}
+use Rattle.labels.specs.Table.{foundAs}
 use Rattle.labels.proofs.Words.{halves, lengths-differ}
-use Rattle.reading.specs.Statement.{Name, aWord, Item, modes, counts, names}
-use Rattle.reading.specs.Answer.{accepted, _>>=_}
-use Rattle.reading.specs.Argument.{firsts, modeList, countList, modesOf, countsOf, operandOf, itemsOf, array, single, modeAt}
+use Rattle.reading.specs.Statement.{aWord, Item, counts, names}
+use Rattle.reading.specs.Answer.{accepted, refused, _>>=_}
+use Rattle.reading.specs.Argument.{firsts, loneMode, countList, modesOf, countsOf, operandOf, itemsOf, array}
+use Rattle.forms.specs.declared.Name as forms
+use Rattle.forms.specs.declared.Modes.the-variants as formModes
+use Rattle.forms.specs.Items.{nameIn}
+use Rattle.forms.specs.Forms.{modesIn}
+use Rattle.forms.specs.Fits.{Stands}
+use Rattle.forms.proofs.Lists.{stands-one}
 use Rattle.checks.specs.Answers.{modesListed}
+use Rattle.checks.proofs.Judging.{found-some, found-none}
 
--- a word alone
-abbrev pub word : Name → Item
-word n = record { kind = aWord; name = n }
+-- a word alone as a mode: it is looked up, and stands for the list of one entry that starts with it
+module _ (f : Family) (s : List ℕ) (n : forms.Name) where
+  abbrev Looked : Found → Type 0
+  Looked r = r ≡ foundAs (find (nameIn s n .spelling) (labelsOf f))
+
+  pub lone-found :
+      Stands s aWord n
+      → (m : ℕ)
+      → Looked (Place m)
+      → accepted (modesIn s f (formModes.List (record { first = n .offset; count = 1 }))) ≡ loneMode f aWord (nameIn s n)
+  unfolding modesIn firsts
+  lone-found w m e = rw (stands-one w, found-some (find (nameIn s n .spelling) (labelsOf f)) m e)
+
+  pub lone-unknown : Looked Nothing → refused 10 (n .offset) ≡ loneMode f aWord (nameIn s n)
+  lone-unknown e = rw (found-none (find (nameIn s n .spelling) (labelsOf f)) e)
 
 module _ (f : Family) where
-  pub modes-alone : (n : Name) → modesOf f (single (word n)) ≡ modesListed f (word n ∷ [])
-  unfolding modesOf modeList firsts
-  modes-alone n = go (find (n .spelling) (labelsOf f))
-    where
-      go :
-          (o : Option ℕ)
-          → (modeAt n o >>= λ m. accepted (modes (m ∷ [])))
-          ≡ (modeAt n o >>= (λ m. accepted (m ∷ [])) >>= λ ms. accepted (modes (firsts ms)))
-      go none = refl
-      go (some m) = refl
-
   pub modes-array : {is : List Item} → (is ≡ [] → ⊥) → (o : ℕ) → modesOf f (array o is) ≡ modesListed f is
   unfolding modesOf
   modes-array {is = []} h o = absurd (h refl)

@@ -12,11 +12,11 @@ ghost use Rattle.labels.specs.Word.{sameWord, find};
 ghost use Rattle.labels.specs.Label.{labelsOf};
 ghost use Rattle.labels.specs.Table.{labelTable, foundAs};
 ghost use Rattle.reading.specs.Statement.{aWord, aNumber};
-ghost use Rattle.reading.specs.Argument.{array, placeOf, loneCount, modeList, countList, modesOf, countsOf, operandOf, itemsOf};
+ghost use Rattle.reading.specs.Argument.{array, placeOf, loneMode, loneCount, modeList, countList, modesOf, countsOf, operandOf, itemsOf};
 ghost use Rattle.reading.specs.Feature.{isN, operatorOf, nameOf};
 ghost use Rattle.forms.specs.Items.{tokensFrom, nameIn, itemsIn, listed, rest};
 ghost use Rattle.forms.specs.Forms.{argIn, placesIn, valuesIn};
-ghost use Rattle.forms.specs.Fits.{InText, Listed, Fits};
+ghost use Rattle.forms.specs.Fits.{InText, Listed, Stands, Fits};
 ghost use Rattle.checks.specs.Answers.{checkedAs, modesAs, countsAs, operandAs, itemsAs, nameAs, opReadAs, ItemHere, modesListed};
 use counts::Counted;
 use forms::Arg;
@@ -206,13 +206,7 @@ pub fn modes_of(
         Arg::Star(_) => ModesRead::Modes(Modes::Wildcard),
         Arg::Plus(at) => ModesRead::Refused(wrong(at)),
         Arg::Symbol { at, name: _ } => ModesRead::Refused(wrong(at)),
-        Arg::Word(name) => {
-            let items = Items {
-                first: name.offset,
-                count: 1,
-            };
-            listed_modes(text, classes, labels, family, items)
-        }
+        Arg::Word(name) => lone_mode(text, labels, family, name),
         Arg::Number(name) => ModesRead::Refused(wrong(name.offset)),
         Arg::Range {
             at,
@@ -225,6 +219,23 @@ pub fn modes_of(
             }
             listed_modes(text, classes, labels, family, items)
         }
+    }
+}
+
+// A word alone as a mode of a family: it is looked up as it stands, and not read again as the list of one that the answer names.
+fn lone_mode(text: &[u8], labels: &[u8; 608], family: Family, name: Name) -> ModesRead
+    requires { ⌜ (now labels ≡ labelTable) × Stands (now text) aWord name ⌝ }
+    ensures { λ r. ⌜ modesAs (now (text .entry)) family r ≡ loneMode family aWord (nameIn (now (text .entry)) name) ⌝ }
+{
+    match mode_at(text, labels, family, name) {
+        Found::Place(_) => ModesRead::Modes(Modes::List(Items {
+            first: name.offset,
+            count: 1,
+        })),
+        Found::Nothing => ModesRead::Refused(Refusal {
+            number: 10,
+            place: name.offset,
+        }),
     }
 }
 

@@ -20,7 +20,7 @@ use Rattle.reading.specs.Read.{Where, between, inside, prepend, onward, readFro
 use Rattle.reading.specs.One.{One, whole, halted, oneStep, readOne}
 use Rattle.forms.specs.declared.Refusal.{Refusal}
 use Rattle.forms.specs.Items.{tokensFrom}
-use Rattle.tokens.proofs.Steps.{token}
+use Rattle.tokens.proofs.Steps.{token, at-end}
 use Rattle.tokens.proofs.Views.{Reads, Known, aWord, aNumber, aMark, aStray, theEnd}
 use Rattle.statements.specs.Answers.{readAt, crowdedBy, counted}
 
@@ -97,23 +97,34 @@ module _ (limit : ℕ) (s : List ℕ) (n o : ℕ) (t : lexer.Token) where
   ended-crowded (aStray e r q) d f = ap (readFrom limit (length s) n Where.ended) r ∙ (simp e)
   ended-crowded (theEnd e r l q) d f = absurd (f e)
 
-  -- a separator, in both places
+  -- a separator, in both places; behind a statement reading goes on from it
   pub past-separator : Reads s o (token (t .start) (mark 59)) (t .next .at) → readAt limit s n between o ≡ readAt limit s n between (t .next .at)
   unfolding readFrom
   past-separator r = ap (readFrom limit (length s) n between) (r .tokens)
 
-  pub ended-separator : Reads s o (token (t .start) (mark 59)) (t .next .at) → readAt limit s n Where.ended o ≡ readAt limit s n between o
+  pub ended-separator :
+      Reads s o (token (t .start) (mark 59)) (t .next .at) → readAt limit s n Where.ended o ≡ readAt limit s n between (t .start)
   unfolding readFrom
-  ended-separator r = ap (readFrom limit (length s) n Where.ended) (r .tokens) ∙ sym (ap (readFrom limit (length s) n between) (r .tokens))
+  ended-separator r = ap (readFrom limit (length s) n Where.ended) (r .tokens) ∙ sym (ap (readFrom limit (length s) n between) (r .there))
 
   -- the text's end, in both places
   pub at-finish : tokensFrom s o ≡ finish → readAt limit s n between o ≡ accepted []
   unfolding readFrom
   at-finish e = ap (readFrom limit (length s) n between) e
 
-  pub ended-finish : tokensFrom s o ≡ finish → readAt limit s n Where.ended o ≡ readAt limit s n between o
+  pub ended-finish :
+      tokensFrom s o ≡ finish → t .start ≡ length s → readAt limit s n Where.ended o ≡ readAt limit s n between (t .start)
   unfolding readFrom
-  ended-finish e = ap (readFrom limit (length s) n Where.ended) e ∙ sym (ap (readFrom limit (length s) n between) e)
+  ended-finish e l =
+      ap (readFrom limit (length s) n Where.ended) e ∙ sym (ap (readFrom limit (length s) n between) (at-end s (t .start) (omega arith)))
+
+-- the text's end stands at its length
+pub ends-at : {s : List ℕ} {o : ℕ} {t : lexer.Token} → Known s o t → t .kind ≡ 3 → t .start ≡ length s
+ends-at (aWord e r) k = absurd (omega arith)
+ends-at (aNumber e r) k = absurd (omega arith)
+ends-at (aMark e r) k = absurd (omega arith)
+ends-at (aStray e r q) k = absurd (omega arith)
+ends-at (theEnd e r l q) k = l
 
 -- one statement more is one more to count
 pub counted-more : (n : ℕ) (s : Statement) (a : Answer (List Statement)) → counted n (prepend s a) ≡ counted (suc n) a

@@ -10,7 +10,7 @@ use Rattle.tokens.specs.declared.Token as lexer
 use Rattle.tokens.specs.Next.{tokenAt}
 use Rattle.reading.specs.Statement.{Statement}
 use Rattle.reading.specs.Answer.{Answer, accepted, refused}
-use Rattle.reading.specs.Read.{Where, between, prepend, readFrom}
+use Rattle.reading.specs.Read.{Where, between, prepend, readFrom, readText}
 use Rattle.reading.specs.One.{One, whole, halted}
 use Rattle.forms.specs.declared.Refusal.{Refusal}
 use Rattle.forms.specs.Items.{tokensFrom}
@@ -51,10 +51,14 @@ pub record FirstToken (s : List ℕ) (o : ℕ) (t : lexer.Token) : Type 0 where
 abbrev pub crowdedBy : lexer.Token → ℕ → Refusal
 crowdedBy t n = record { number = cond (eqb (t .kind) 2) 2 (cond (leb 256 n) 11 3); place = t .start }
 
--- what stands behind a statement
+-- what stands behind a statement, and where: from there on the next statement is sought
 unfoldable pub EndedThen : ℕ → List ℕ → ℕ → ℕ → Ended → Type 0
-EndedThen limit s n o ended.Fine = readAt limit s n Where.ended o ≡ readAt limit s n between o
+EndedThen limit s n o (ended.Fine c) = readAt limit s n Where.ended o ≡ readAt limit s n between (c .at)
 EndedThen limit s n o (ended.Refused r) = readAt limit s n Where.ended o ≡ refused (r .number) (r .place)
+
+unfoldable pub EndedFurther : List ℕ → ℕ → Ended → Type 0
+EndedFurther s o (ended.Fine c) = (o ≤ length s → o ≤ c .at) × (c .at ≤ length s)
+EndedFurther s o (ended.Refused r) = Unit {0}
 
 -- the next statement with what follows it, or the text's end
 unfoldable pub nextThen : ℕ → List ℕ → ℕ → NextRead → Answer (List Statement)
@@ -66,6 +70,14 @@ unfoldable pub NextFurther : List ℕ → ℕ → NextRead → Type 0
 NextFurther s o (nextRead.Statement f c) = (o < c .at) × (c .at ≤ length s)
 NextFurther s o nextRead.End = Unit {0}
 NextFurther s o (nextRead.Refused r) = Unit {0}
+
+-- what the refusal of a text's statements is for the whole text, where that is not too long
+abbrev pub FirstFault : List ℕ → Refusal → Refusal → Type 0
+FirstFault s x r =
+    (limit : ℕ)
+    → length s ≤ 16384
+    → readAt limit s 0 between 0 ≡ refused (x .number) (x .place)
+    → readText limit s ≡ refused (r .number) (r .place)
 
 -- how many statements there are, after so many
 abbrev pub counted : ℕ → Answer (List Statement) → Answer ℕ

@@ -16,7 +16,7 @@ ghost use Rattle.reading.specs.Read.{between, readText};
 ghost use Rattle.forms.specs.Items.{nameIn};
 ghost use Rattle.forms.specs.Fits.{InText};
 ghost use Rattle.arguments.specs.Answers.{readIn, stepIn};
-ghost use Rattle.statements.specs.Answers.{statementThen, StatementFurther, FirstToken, EndedThen, crowdedBy, readAt, nextThen, NextFurther, counted, countAs, nthOf, statementAs};
+ghost use Rattle.statements.specs.Answers.{statementThen, StatementFurther, FirstToken, EndedThen, EndedFurther, crowdedBy, readAt, nextThen, NextFurther, FirstFault, counted, countAs, nthOf, statementAs};
 use calls::FeatureRead;
 use calls::LetRead;
 use checks::ItemsRead;
@@ -34,9 +34,9 @@ pub enum StatementRead {
     Refused(Refusal),
 }
 
-// Whether a statement may end where it does.
+// Whether a statement may end where it does, with the cursor at what stands behind it: there reading goes on.
 pub enum Ended {
-    Fine,
+    Fine(Cursor),
     Refused(Refusal),
 }
 
@@ -154,18 +154,20 @@ fn first_token(text: &[u8], classes: &[u8; 256], at: usize) -> Token
     }
 }
 
-// What stands behind the statement that is the `n`th: a separator, or the text's end.
+// What stands behind the statement that is the `n`th: a separator, or the text's end. The blanks and the comment before it are passed, so
+// that the next statement is not sought through them again.
 fn behind(text: &[u8], classes: &[u8; 256], at: usize, n: usize) -> Ended
     requires { ⌜ now classes ≡ classTable ⌝ }
     ensures { λ r. ⌜ ((limit : ℕ) → EndedThen limit (now (text .entry)) n at r) ⌝ }
+    ensures { λ r. ⌜ EndedFurther (now (text .entry)) at r ⌝ }
 {
     let c = Cursor { at };
     let token = c.token(text, classes);
     if token.kind == b';' {
-        return Ended::Fine;
+        return Ended::Fine(Cursor { at: token.start });
     }
     if token.kind == 3 {
-        return Ended::Fine;
+        return Ended::Fine(Cursor { at: token.start });
     }
     Ended::Refused(crowded(token, n))
 }
@@ -220,7 +222,7 @@ pub fn next_statement(
     let name = arguments::named(token);
     match statement(text, classes, labels, keys, name, next.at, limit) {
         StatementRead::Statement(form, c) => match behind(text, classes, c.at, n + 1) {
-            Ended::Fine => NextRead::Statement(form, c),
+            Ended::Fine(d) => NextRead::Statement(form, d),
             Ended::Refused(r) => NextRead::Refused(r),
         },
         StatementRead::Refused(r) => NextRead::Refused(r),
@@ -252,7 +254,21 @@ fn count_from(
     }
 }
 
-// The number of statements of a text, or why it is refused. A refusal is looked at again: a byte that starts no token comes before it.
+// The refusal of a text whose statements were refused: a byte that starts no token comes before every other fault but the length.
+pub fn earliest(text: &[u8], classes: &[u8; 256], refusal: Refusal) -> Refusal
+    requires { ⌜ now classes ≡ classTable ⌝ }
+    ensures { λ r. ⌜ FirstFault (now (text .entry)) refusal r ⌝ }
+{
+    match tokens::scan(text, classes) {
+        Scanned::Stray(at) => Refusal {
+            number: 2,
+            place: at,
+        },
+        Scanned::Whole => refusal,
+    }
+}
+
+// The number of statements of a text, or why it is refused.
 pub fn count_under(text: &[u8], limit: u32) -> CountRead
     ensures { λ r. ⌜ countAs r ≡ counted 0 (readText limit (now (text .entry))) ⌝ }
 {
@@ -267,13 +283,7 @@ pub fn count_under(text: &[u8], limit: u32) -> CountRead
     let keys = labels::KEYWORDS;
     match count_from(text, &classes, &labels, &keys, limit) {
         CountRead::Count(n) => CountRead::Count(n),
-        CountRead::Refused(r) => match tokens::scan(text, &classes) {
-            Scanned::Stray(at) => CountRead::Refused(Refusal {
-                number: 2,
-                place: at,
-            }),
-            Scanned::Whole => CountRead::Refused(r),
-        },
+        CountRead::Refused(r) => CountRead::Refused(earliest(text, &classes, r)),
     }
 }
 

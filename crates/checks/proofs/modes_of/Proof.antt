@@ -6,9 +6,9 @@ use Rattle.forms.specs.Items.{entries}
 use Rattle.forms.specs.Forms.{argIn, modesIn}
 use Rattle.forms.specs.Fits.{Fits}
 use Rattle.checks.specs.Answers.{modesAs}
-use Rattle.forms.proofs.Lists.{no-items, one-listed, stands-one}
+use Rattle.forms.proofs.Lists.{no-items}
 use Rattle.checks.proofs.Entries.{listed-some}
-use Rattle.checks.proofs.Arguments.{modes-alone, modes-array}
+use Rattle.checks.proofs.Arguments.{modes-array}
 use borrow.Author.Needs.{needs}
 use Rattle.checks.proofs.modes_of.Statement.{statement}
 use Rattle.checks.proofs.modes_of.Tie as tie
@@ -31,11 +31,11 @@ wrong-requires-2 c κs = search needs
 enum-known-arg-3 : tie.Need-enum-known-arg-3
 enum-known-arg-3 c = search needs
 
-listed-modes-requires : tie.Need-listed-modes-requires
+lone-mode-requires : tie.Need-lone-mode-requires
 unfolding Fits
-listed-modes-requires c κs =
+lone-mode-requires c κs =
     let p = c .before .before .before .before .pre in
-    (p .0, p .1, one-listed _ _ ((rw (c .before .arg3 .given .1) at (p .2)) .one))
+    (p .1, rw (c .before .arg3 .given .1) at (p .2))
 
 enum-known-arg-4 : tie.Need-enum-known-arg-4
 enum-known-arg-4 c = search needs
@@ -61,9 +61,9 @@ returns c =
     let e = c .before .before .before .before .arg6 .given in
     rw (e .1, c .wrong5 .ensures, no-items _ (e .0 .1 .0) (c .before .if1 .taken))
 
-listed-modes-requires-2 : tie.Need-listed-modes-requires-2
+listed-modes-requires : tie.Need-listed-modes-requires
 unfolding Fits
-listed-modes-requires-2 c κs =
+listed-modes-requires c κs =
     let d = c .before .before .before in
     let p = d .before .before .before .pre in
     (p .0, p .1, rw (d .arg6 .given .1) at (p .2))
@@ -81,13 +81,8 @@ unfolding modesAs modesOf argIn
 returns-4 c = rw (c .before .before .arg2 .given .1, c .wrong2 .ensures)
 
 returns-5 : tie.Need-returns-5
-unfolding argIn Fits
-returns-5 c =
-    let d = c .before .before in
-    let a = d .before .before .before .args in
-    let e = d .arg3 .given in
-    let w = rw (e .1) at (d .before .before .before .pre .2) in
-    c .listed-modes .ensures ∙ rw (e .1, modes-alone (a .family), stands-one w)
+unfolding modesOf argIn
+returns-5 c = c .lone-mode .ensures ∙ rw (c .before .before .arg3 .given .1)
 
 returns-6 : tie.Need-returns-6
 unfolding modesAs modesOf argIn
@@ -104,7 +99,7 @@ returns-8 c =
     let a = d .before .before .before .args in
     let e = d .arg6 .given in
     let l = rw (e .1) at (d .before .before .before .pre .2) in
-    c .listed-modes2 .ensures ∙ rw (e .1, modes-array (a .family) (listed-some (now (a .text)) (e .0 .1 .0) l (c .before .if1 .left)))
+    c .listed-modes .ensures ∙ rw (e .1, modes-array (a .family) (listed-some (now (a .text)) (e .0 .1 .0) l (c .before .if1 .left)))
 
 pub modes-of-spec : {M : Type 1} → statement M
 modes-of-spec =
@@ -116,7 +111,7 @@ modes-of-spec =
     enum-known-arg-2
     wrong-requires-2
     enum-known-arg-3
-    listed-modes-requires
+    lone-mode-requires
     enum-known-arg-4
     wrong-requires-3
     enum-known-arg-5
@@ -124,7 +119,7 @@ modes-of-spec =
     enum-known-arg-6
     wrong-requires-5
     returns
-    listed-modes-requires-2
+    listed-modes-requires
     returns-2
     returns-3
     returns-4

@@ -1,10 +1,11 @@
--- `statements::behind` meets its contract: a separator or the text's end may follow a statement. Assumes nothing.
+-- `statements::behind` meets its contract: a separator or the text's end may follow a statement, and reading goes on from it. Assumes nothing.
 use mathlib.Core.Path.{_∙_, ap, sym}
+use native.Mathlib.Omega.{arith}
 use denote.Ref.{now}
 use lib.Dec.{lit≤}
 use Rattle.tokens.proofs.Views.{Known, known, known-mark, known-end}
-use Rattle.statements.specs.Answers.{EndedThen}
-use Rattle.statements.proofs.Whole.{refusedAs, ended-crowded, ended-separator, ended-finish}
+use Rattle.statements.specs.Answers.{EndedThen, EndedFurther}
+use Rattle.statements.proofs.Whole.{refusedAs, ended-crowded, ended-separator, ended-finish, ends-at}
 use borrow.Author.Needs.{needs}
 use Rattle.statements.proofs.behind.Statement.{statement}
 use Rattle.statements.proofs.behind.Tie as tie
@@ -17,27 +18,31 @@ token-requires : tie.Need-token-requires
 token-requires c κs = search needs
 
 returns : tie.Need-returns
-unfolding EndedThen
+unfolding EndedThen EndedFurther
 returns c =
     let d = c .before .before in
-    λ limit. ended-separator limit _ _ _ (d .token .result) (known-mark (here d) 59 (c .if1 .taken) (lit≤ tt))
+    let r = known-mark (here d) 59 (c .if1 .taken) (lit≤ tt) in
+    (λ limit. ended-separator limit _ _ _ (d .token .result) r, (λ h. r .ahead, omega (arith, r .wide, r .within)))
 
 returns-2 : tie.Need-returns-2
-unfolding EndedThen
+unfolding EndedThen EndedFurther
 returns-2 c =
     let d = c .before .before .before .before in
-    λ limit. ended-finish limit _ _ _ (d .token .result) (known-end (here d) (c .if2 .taken))
+    let l = ends-at (here d) (c .if2 .taken) in
+    (λ limit. ended-finish limit _ _ _ (d .token .result) (known-end (here d) (c .if2 .taken)) l, (λ h. omega (arith, l), omega (arith, l)))
 
 crowded-requires : tie.Need-crowded-requires
 crowded-requires c κs = search needs
 
 returns-3 : tie.Need-returns-3
-unfolding EndedThen
+unfolding EndedThen EndedFurther
 returns-3 c =
-    let d = c .before .before .before .before .before in
-    λ limit.
-    ended-crowded limit _ _ _ (d .token .result) (here d) (c .before .before .before .if1 .left) (c .before .if2 .left)
-    ∙ ap refusedAs (sym (c .crowded .ensures))
+    let d = c .before .before .before .before .before in (
+      λ limit.
+          ended-crowded limit _ _ _ (d .token .result) (here d) (c .before .before .before .if1 .left) (c .before .if2 .left)
+          ∙ ap refusedAs (sym (c .crowded .ensures)),
+      tt,
+    )
 
 pub behind-spec : {M : Type 1} → statement M
 behind-spec = tie.close (tie.spec token-requires returns returns-2 crowded-requires returns-3)

@@ -5,7 +5,8 @@ use Rattle.tokens.specs.Class.{classOf, classTable}
 use Rattle.labels.specs.Label.{labelsOf, keywords}
 use Rattle.labels.specs.Table.{labelTable, keywordTable}
 use Rattle.statements.specs.Answers.{counted, countAs}
-use Rattle.statements.proofs.Texts.{long-text, stray-text, whole-text, counted-text}
+use Rattle.statements.proofs.Texts.{long-text, counted-text}
+use Rattle.statements.proofs.Whole.{counted-refused}
 use borrow.Author.Needs.{needs}
 use Rattle.statements.proofs.count_under.Statement.{statement}
 use Rattle.statements.proofs.count_under.Tie as tie
@@ -24,15 +25,9 @@ enum-known-n c = search needs
 enum-known-r : tie.Need-enum-known-r
 enum-known-r c = search needs
 
-scan-requires : tie.Need-scan-requires
+earliest-requires : tie.Need-earliest-requires
 unfolding classTable classOf
-scan-requires c κs = refl
-
-enum-known-at : tie.Need-enum-known-at
-enum-known-at c = search needs
-
-enum-told : tie.Need-enum-told
-enum-told c = search needs
+earliest-requires c κs = refl
 
 returns-2 : tie.Need-returns-2
 unfolding countAs
@@ -48,22 +43,12 @@ returns-2 c =
 returns-3 : tie.Need-returns-3
 unfolding countAs
 returns-3 c =
-    let v = c .before .before .before in
-    let d = v .before .before .before .before .before in
+    let r = c .before .before .before .r .given in
+    let d = c .before .before .before .before .before in
     let b = d .before .before .before .before in
     let a = b .before .before .args in
-    sym (ap (counted 0) (stray-text (a .limit) (now (a .text)) (b .if1 .left) (c .before .at .given .0 .0) (sym (v .scan .ensures) ∙ c .before .at .given .1)))
-
-returns-4 : tie.Need-returns-4
-unfolding countAs
-returns-4 c =
-    let v = c .before .before in
-    let d = v .before .before .before .before .before in
-    let b = d .before .before .before .before in
-    let a = b .before .before .args in
-    sym (ap countAs (v .before .before .before .r .given .1))
-    ∙ d .count-from .ensures
-    ∙ ap (counted 0) (sym (whole-text (a .limit) (now (a .text)) (b .if1 .left) (sym (v .scan .ensures) ∙ c .enum-told .given .1)))
+    let e = counted-refused 0 (r .0 .0 .number) (r .0 .0 .place) _ (sym (d .count-from .ensures) ∙ ap countAs (r .1)) in
+    sym (ap (counted 0) (c .earliest .ensures (a .limit) (b .if1 .left) e))
 
 pub count-under-spec : {M : Type 1} → statement M
 count-under-spec =
@@ -73,9 +58,6 @@ count-under-spec =
     count-from-requires
     enum-known-n
     enum-known-r
-    scan-requires
-    enum-known-at
-    enum-told
+    earliest-requires
     returns-2
-    returns-3
-    returns-4)
+    returns-3)

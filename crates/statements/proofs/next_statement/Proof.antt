@@ -17,7 +17,7 @@ use Rattle.tokens.proofs.Steps.{token}
 use Rattle.tokens.proofs.Views.{part, Reads, Known, known, known-word, known-end}
 use Rattle.arguments.specs.Answers.{stepIn}
 use Rattle.arguments.proofs.Names.{same-name, in-text}
-use Rattle.statements.specs.Answers.{readAt, statementThen, StatementFurther, EndedThen, nextThen, NextFurther}
+use Rattle.statements.specs.Answers.{readAt, statementThen, StatementFurther, EndedThen, EndedFurther, nextThen, NextFurther}
 use Rattle.statements.proofs.Whole.{refusedAs, oneThen, first-word, between-crowded, at-finish}
 use borrow.Author.Needs.{needs}
 use Rattle.statements.proofs.next_statement.Statement.{statement}
@@ -139,8 +139,8 @@ add-behind c =
 behind-requires : tie.Need-behind-requires
 behind-requires c κs = c .before .before .before .before .before .before .before .before .before .before .before .before .before .pre .0
 
-enum-told : tie.Need-enum-told
-enum-told c = search needs
+enum-known-d : tie.Need-enum-known-d
+enum-known-d c = search needs
 
 enum-known-r : tie.Need-enum-known-r
 enum-known-r c = search needs
@@ -149,9 +149,9 @@ enum-known-r-2 : tie.Need-enum-known-r-2
 enum-known-r-2 c = search needs
 
 returns-4 : tie.Need-returns-4
-unfolding nextThen NextFurther statementThen StatementFurther EndedThen
+unfolding nextThen NextFurther statementThen StatementFurther EndedThen EndedFurther
 returns-4 c =
-    let w = c .before .before .before .before .before .before in
+    let w = c .before .before .before .before .before .before .before in
     let m = w .before in
     let d = m .before .before .before .before .before .before .before in
     let a = d .before .before .args in
@@ -159,18 +159,21 @@ returns-4 c =
     let f = d .first-token .ensures in
     let r = word-here m in
     let e = opened-here m ∙ ap (oneThen (a .limit) (length s) (a .n)) (w .statement .ensures .0) in
-    let x = c .before .before .before .before .form .given in
-    let b = subst (EndedThen (a .limit) s (a .n + 1) (x .0 .1 .0 .at)) (c .enum-told .given .1) (c .before .before .behind .ensures (a .limit)) in
+    let x = c .before .before .before .before .before .form .given in
+    let y = c .before .d .given in
+    let l = c .before .before .before .behind .ensures in
+    let b = subst (EndedThen (a .limit) s (a .n + 1) (x .0 .1 .0 .at)) (y .1) (l .0 (a .limit)) in
+    let h = subst (EndedFurther s (x .0 .1 .0 .at)) (y .1) (l .1) in
     let g = subst (StatementFurther s (d .first-token .result .next .at)) (x .1) (w .statement .ensures .1) in (
       f .same (a .limit) (a .n)
           ∙ e
-          ∙ ap (λ (y : One). oneThen (a .limit) (length s) (a .n) y) (ap (statementThen s) (x .1))
+          ∙ ap (λ (z : One). oneThen (a .limit) (length s) (a .n) z) (ap (statementThen s) (x .1))
           ∙ ap (prepend (statementIn s (x .0 .0)))
           (ap (λ (k : ℕ). readAt (a .limit) s k Where.ended (x .0 .1 .0 .at)) (sym (add-one (a .n)))
           ∙ b
-          ∙ ap (λ (k : ℕ). readAt (a .limit) s k between (x .0 .1 .0 .at)) (add-one (a .n))
+          ∙ ap (λ (k : ℕ). readAt (a .limit) s k between (y .0 .0 .at)) (add-one (a .n))
           ),
-      (omega (arith, f .ahead, r .ahead, r .wide, g .0), g .1),
+      (omega (arith, f .ahead, r .ahead, r .wide, g .0, h .0 (g .1)), h .1),
     )
 
 returns-5 : tie.Need-returns-5
@@ -185,7 +188,7 @@ returns-5 c =
     let r = word-here m in
     let e = opened-here m ∙ ap (oneThen (a .limit) (length s) (a .n)) (w .statement .ensures .0) in
     let x = c .before .before .before .before .before .form .given in
-    let b = subst (EndedThen (a .limit) s (a .n + 1) (x .0 .1 .0 .at)) (c .before .r .given .1) (c .before .before .before .behind .ensures (a .limit)) in (
+    let b = subst (EndedThen (a .limit) s (a .n + 1) (x .0 .1 .0 .at)) (c .before .r .given .1) (c .before .before .before .behind .ensures .0 (a .limit)) in (
       f .same (a .limit) (a .n)
           ∙ e
           ∙ ap (λ (y : One). oneThen (a .limit) (length s) (a .n) y) (ap (statementThen s) (x .1))
@@ -224,7 +227,7 @@ next-statement-spec =
     enum-known-form
     add-behind
     behind-requires
-    enum-told
+    enum-known-d
     enum-known-r
     enum-known-r-2
     returns-4
