@@ -156,12 +156,12 @@ fn print_few(
     let mut cur = 0;
     loop {
         match statements::next_statement(text, classes, labels, keys, cur, n, limit) {
-            NextRead::Statement(form, next) => {
+            NextRead::Statement(form, after) => {
                 if 32 <= n {
                     return Kept::More;
                 }
                 forms[n] = form;
-                cur = next.at;
+                cur = after.at;
                 n += 1;
             }
             NextRead::End => break,
@@ -192,17 +192,17 @@ fn print_many(
     ensures { λ r. ⌜ KeptAs limit (now (text .entry)) (now (out .entry)) (now (out .exit)) r ⌝ }
 {
     let mut forms = many_forms();
-    let mut n = 0;
+    let mut count = 0;
     let mut cur = 0;
     loop {
-        match statements::next_statement(text, classes, labels, keys, cur, n, limit) {
-            NextRead::Statement(form, next) => {
-                if 256 <= n {
+        match statements::next_statement(text, classes, labels, keys, cur, count, limit) {
+            NextRead::Statement(form, after) => {
+                if 256 <= count {
                     return Kept::More;
                 }
-                forms[n] = form;
-                cur = next.at;
-                n += 1;
+                forms[count] = form;
+                cur = after.at;
+                count += 1;
             }
             NextRead::End => break,
             NextRead::Refused(r) => return Kept::Refused(r),
@@ -210,7 +210,7 @@ fn print_many(
     }
     let mut i = 0;
     let mut at = 0;
-    while i < n {
+    while i < count {
         let form = forms[i];
         at = put_next(text, classes, labels, keys, i, form, out, at);
         i += 1;
@@ -275,7 +275,7 @@ pub fn print_under(text: &[u8], out: &mut [u8], limit: u32) -> Printed
     let keys = labels::KEYWORDS;
     match print_kept(text, &classes, &labels, &keys, out, limit) {
         Kept::Length(n) => Printed::Length(n),
-        Kept::Refused(_) => print_twice(text, out, limit),
+        Kept::Refused(r) => Printed::Refused(statements::earliest(text, &classes, r)),
         Kept::More => print_twice(text, out, limit),
     }
 }

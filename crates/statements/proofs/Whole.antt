@@ -103,9 +103,9 @@ module _ (limit : ℕ) (s : List ℕ) (n o : ℕ) (t : lexer.Token) where
   past-separator r = ap (readFrom limit (length s) n between) (r .tokens)
 
   pub ended-separator :
-      Reads s o (token (t .start) (mark 59)) (t .next .at) → readAt limit s n Where.ended o ≡ readAt limit s n between (t .start)
+      Reads s o (token (t .start) (mark 59)) (t .next .at) → readAt limit s n Where.ended o ≡ readAt limit s n between (t .next .at)
   unfolding readFrom
-  ended-separator r = ap (readFrom limit (length s) n Where.ended) (r .tokens) ∙ sym (ap (readFrom limit (length s) n between) (r .there))
+  ended-separator r = ap (readFrom limit (length s) n Where.ended) (r .tokens)
 
   -- the text's end, in both places
   pub at-finish : tokensFrom s o ≡ finish → readAt limit s n between o ≡ accepted []

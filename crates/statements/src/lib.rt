@@ -145,7 +145,7 @@ fn first_token(text: &[u8], classes: &[u8; 256], at: usize) -> Token
     let mut cur = at;
     loop {
         let c = Cursor { at: cur };
-        let token = c.token(text, classes);
+        let token = c.token_after_blanks(text, classes);
         if token.kind != b';' {
             return token;
         }
@@ -154,8 +154,8 @@ fn first_token(text: &[u8], classes: &[u8; 256], at: usize) -> Token
     }
 }
 
-// What stands behind the statement that is the `n`th: a separator, or the text's end. The blanks and the comment before it are passed, so
-// that the next statement is not sought through them again.
+// What stands behind the statement that is the `n`th: a separator, or the text's end. It is passed, with the blanks and the comment before
+// it, so that the next statement is not sought through them again.
 fn behind(text: &[u8], classes: &[u8; 256], at: usize, n: usize) -> Ended
     requires { ⌜ now classes ≡ classTable ⌝ }
     ensures { λ r. ⌜ ((limit : ℕ) → EndedThen limit (now (text .entry)) n at r) ⌝ }
@@ -163,8 +163,9 @@ fn behind(text: &[u8], classes: &[u8; 256], at: usize, n: usize) -> Ended
 {
     let c = Cursor { at };
     let token = c.token(text, classes);
+    let next = token.next;
     if token.kind == b';' {
-        return Ended::Fine(Cursor { at: token.start });
+        return Ended::Fine(next);
     }
     if token.kind == 3 {
         return Ended::Fine(Cursor { at: token.start });

@@ -20,16 +20,16 @@ use Rattle.render.proofs.put_next.Reads as put-next-reads
 use Rattle.statements.proofs.next_statement.Reads as next-statement-reads
 
 abbrev Inv-loop : tie.InvT-loop
-Inv-loop text classes labels keys out limit forms₀ n₀ cur₀ forms n cur = Keeping limit text forms n cur × (length forms ≡ 256)
+Inv-loop text classes labels keys out limit forms₀ count₀ cur₀ forms count cur = Keeping limit text forms count cur × (length forms ≡ 256)
 
 abbrev μ-loop : tie.MeasureT-loop
-μ-loop text classes labels keys out limit forms₀ n₀ cur₀ forms n cur = length text - cur
+μ-loop text classes labels keys out limit forms₀ count₀ cur₀ forms count cur = length text - cur
 
 abbrev Inv-loop2 : tie.InvT-loop2
-Inv-loop2 text classes labels keys out₀ limit forms n cur i₀ at₀ out i at = Putting limit text out₀ out forms n i at
+Inv-loop2 text classes labels keys out₀ limit forms count cur i₀ at₀ out i at = Putting limit text out₀ out forms count i at
 
 abbrev μ-loop2 : tie.MeasureT-loop2
-μ-loop2 text classes labels keys out₀ limit forms n cur i₀ at₀ out i at = n - i
+μ-loop2 text classes labels keys out₀ limit forms count cur i₀ at₀ out i at = count - i
 
 many-forms-requires : tie.Need-many-forms-requires Inv-loop μ-loop Inv-loop2 μ-loop2
 many-forms-requires c κs = search needs
@@ -50,8 +50,8 @@ ahead : (c : tie.After-form Inv-loop μ-loop Inv-loop2 μ-loop2)
     → let l = c .before .before .before in
     let a = l .before .before .before .before .args in
     let x = c .form .given .0 in
-    readAt (a .limit) (now (a .text)) (l .loop .n) between (l .loop .cur)
-    ≡ prepend (statementIn (now (a .text)) (x .0)) (readAt (a .limit) (now (a .text)) (suc (l .loop .n)) between (x .1 .0 .at))
+    readAt (a .limit) (now (a .text)) (l .loop .count) between (l .loop .cur)
+    ≡ prepend (statementIn (now (a .text)) (x .0)) (readAt (a .limit) (now (a .text)) (suc (l .loop .count)) between (x .1 .0 .at))
 unfolding nextThen
 ahead c = c .before .before .next-statement .ensures .0 ∙ ap (nextThen _ _ _) (c .form .given .1)
 
@@ -75,8 +75,8 @@ mul-forms c = omega (arith, c .if1 .left)
 array-set-from-forms : tie.Need-array-set-from-forms Inv-loop μ-loop Inv-loop2 μ-loop2
 array-set-from-forms c = omega (arith, c .if1 .left)
 
-add-n : tie.Need-add-n Inv-loop μ-loop Inv-loop2 μ-loop2
-add-n c = omega (arith, c .if1 .left)
+add-count : tie.Need-add-count Inv-loop μ-loop Inv-loop2 μ-loop2
+add-count c = omega (arith, c .if1 .left)
 
 loop-less : tie.Need-loop-less Inv-loop μ-loop Inv-loop2 μ-loop2
 loop-less c = omega (arith, forward (c .before .before))
@@ -88,7 +88,7 @@ loop-again c =
     let x = f .form .given .0 in
     (
       one-kept (l .loop .inv .0) (x .0) (x .1 .0 .at) (ahead f) (omega (arith, c .if1 .left, l .loop .inv .1)) (forward f .0),
-      length-set (l .loop .forms) (l .loop .n) (x .0) ∙ l .loop .inv .1,
+      length-set (l .loop .forms) (l .loop .count) (x .0) ∙ l .loop .inv .1,
     )
 
 enum-told : tie.Need-enum-told Inv-loop μ-loop Inv-loop2 μ-loop2
@@ -108,7 +108,7 @@ unfolding nextThen
 loop2-holds c = 
     let d = c .before .before in
     let l = d .before in
-    none-put _ _ _ (l .loop .forms) (l .loop .n)
+    none-put _ _ _ (l .loop .forms) (l .loop .count)
     (accepted-then (l .loop .inv .0) (l .before .before .before .before .pre .3) (d .next-statement .ensures .0 ∙ ap (nextThen _ _ _) (c .enum-told .given .1)))
     (l .loop .inv .0 .held)
 
@@ -161,7 +161,7 @@ print-many-spec =
     returns
     mul-forms
     array-set-from-forms
-    add-n
+    add-count
     loop-less
     loop-again
     enum-told

@@ -20,14 +20,14 @@ token-requires c κs = search needs
 returns : tie.Need-returns
 unfolding EndedThen EndedFurther
 returns c =
-    let d = c .before .before in
+    let d = c .before .before .before in
     let r = known-mark (here d) 59 (c .if1 .taken) (lit≤ tt) in
-    (λ limit. ended-separator limit _ _ _ (d .token .result) r, (λ h. r .ahead, omega (arith, r .wide, r .within)))
+    (λ limit. ended-separator limit _ _ _ (d .token .result) r, (λ h. omega (arith, r .ahead, r .wide), r .within))
 
 returns-2 : tie.Need-returns-2
 unfolding EndedThen EndedFurther
 returns-2 c =
-    let d = c .before .before .before .before in
+    let d = c .before .before .before .before .before in
     let l = ends-at (here d) (c .if2 .taken) in
     (λ limit. ended-finish limit _ _ _ (d .token .result) (known-end (here d) (c .if2 .taken)) l, (λ h. omega (arith, l), omega (arith, l)))
 
@@ -37,7 +37,7 @@ crowded-requires c κs = search needs
 returns-3 : tie.Need-returns-3
 unfolding EndedThen EndedFurther
 returns-3 c =
-    let d = c .before .before .before .before .before in (
+    let d = c .before .before .before .before .before .before in (
       λ limit.
           ended-crowded limit _ _ _ (d .token .result) (here d) (c .before .before .before .if1 .left) (c .before .if2 .left)
           ∙ ap refusedAs (sym (c .crowded .ensures)),

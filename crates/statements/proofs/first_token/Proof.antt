@@ -23,14 +23,14 @@ Inv-loop text classes at cur₀ cur = Gone text at cur
 abbrev μ-loop : tie.MeasureT-loop
 μ-loop text classes at cur₀ cur = length text - cur
 
-here : (d : tie.After-token Inv-loop μ-loop) → Known (now (d .before .before .before .args .text)) (d .before .loop .cur) (d .token .result)
-here d = known _ _ (d .token .result) (d .token .ensures)
+here : (d : tie.After-token-after-blanks Inv-loop μ-loop) → Known (now (d .before .before .before .args .text)) (d .before .loop .cur) (d .token-after-blanks .result)
+here d = known _ _ (d .token-after-blanks .result) (d .token-after-blanks .ensures)
 
 loop-holds : tie.Need-loop-holds Inv-loop μ-loop
 loop-holds c = record { same = λ limit n. refl; ahead = omega arith }
 
-token-requires : tie.Need-token-requires Inv-loop μ-loop
-token-requires c κs = c .before .before .pre
+token-after-blanks-requires : tie.Need-token-after-blanks-requires Inv-loop μ-loop
+token-after-blanks-requires c κs = c .before .before .pre
 
 returns : tie.Need-returns Inv-loop μ-loop
 returns c =
@@ -38,7 +38,7 @@ returns c =
     let g = d .before .loop .inv in
     record {
       place = d .before .loop .cur;
-      stands = d .token .ensures;
+      stands = d .token-after-blanks .ensures;
       same = g .same;
       other = c .if1 .taken;
       ahead = g .ahead;
@@ -56,10 +56,10 @@ loop-again c =
     let r = known-mark (here d) 59 (c .before .if1 .left) (lit≤ tt) in
     let g = d .before .loop .inv in
     record {
-      same = λ limit n. g .same limit n ∙ past-separator limit _ n _ (d .token .result) r;
+      same = λ limit n. g .same limit n ∙ past-separator limit _ n _ (d .token-after-blanks .result) r;
       ahead = omega (arith, r .ahead, r .wide, g .ahead);
     }
 
 pub first-token-spec : {M : Type 1} → statement M
 first-token-spec =
-    tie.close (tie.spec Inv-loop μ-loop loop-holds token-requires returns loop-less loop-again)
+    tie.close (tie.spec Inv-loop μ-loop loop-holds token-after-blanks-requires returns loop-less loop-again)
