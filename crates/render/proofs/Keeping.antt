@@ -82,7 +82,7 @@ module _ {limit : ℕ} {s : List ℕ} {forms : List form.Statement} {n cur : ℕ
             ∙ ap (prependAll (firstOnes s n forms)) e
             ∙ sym (prepend-last (firstOnes s n forms) (statementIn s f) _)
             ∙ ap (λ (l : List Statement). prependAll l (readAt limit s (suc n) between p))
-              (sym (ap (map (statementIn s)) (take-suc-set forms n f h) ∙ map-append (statementIn s) (take n forms) (f ∷ [])));
+            (sym (ap (map (statementIn s)) (take-suc-set forms n f h) ∙ map-append (statementIn s) (take n forms) (f ∷ [])));
         few = omega (arith, g .few);
         held = omega (arith, length-set forms n f);
       })
@@ -95,7 +95,7 @@ module _ {limit : ℕ} {s : List ℕ} {forms : List form.Statement} {n cur : ℕ
   pub accepted-then : length s ≤ 16384 → readAt limit s n between cur ≡ accepted [] → readText limit s ≡ accepted (firstOnes s n forms)
   accepted-then h e =
       let r : readAt limit s 0 between 0 ≡ accepted (firstOnes s n forms) =
-          g .read ∙ ap (prependAll (firstOnes s n forms)) e ∙ prepend-none (firstOnes s n forms) in
+      g .read ∙ ap (prependAll (firstOnes s n forms)) e ∙ prepend-none (firstOnes s n forms) in
       counted-text limit s h _ (ap (counted 0) r) ∙ r
 
 -- Of the statements that are kept so many are printed, and the others are left.
@@ -161,32 +161,32 @@ module _ {limit : ℕ} {s before now : List ℕ} {forms : List form.Statement} {
   all-put h q =
       let e : i ≡ n = omega (arith, h, g .most) in
       let z : restOf i (map (statementIn s) (slice i n forms)) ≡ [] =
-          ap (λ (k : ℕ). restOf i (map (statementIn s) (slice k n forms))) e
-          ∙ ap (λ (l : List form.Statement). restOf i (map (statementIn s) l)) (slice-empty n forms) in
+      ap (λ (k : ℕ). restOf i (map (statementIn s) (slice k n forms))) e
+      ∙ ap (λ (l : List form.Statement). restOf i (map (statementIn s) l)) (slice-empty n forms) in
       room-answers limit s before now (firstOnes s n forms) (g .read) at
       (omega (arith, not-longer limit s (firstOnes s n forms) (g .read), q))
       (no-more (told z (g .gone)))
 
 -- where nothing was printed, the buffer is as it was, and what is printed next is the answer
-module _ {limit : ℕ} {s before mid after : List ℕ} (g : KeptAs limit s before mid More) where
+module _ (limit : ℕ) (s before mid after : List ℕ) (g : KeptAs limit s before mid More) where
   same-buffer : mid ≡ before
   unfolding KeptAs
   same-buffer = g
 
-  pub kept-next : {r : Kept} → KeptAs limit s mid after r → KeptAs limit s before after r
-  kept-next {r} h = subst (λ (b : List ℕ). KeptAs limit s b after r) same-buffer h
+  pub kept-next : (r : Kept) → KeptAs limit s mid after r → KeptAs limit s before after r
+  kept-next r h = subst (λ (b : List ℕ). KeptAs limit s b after r) same-buffer h
 
-  pub answers-next : {r : Printed} → Answers (printText limit s) mid after r → Answers (printText limit s) before after r
-  answers-next {r} h = subst (λ (b : List ℕ). Answers (printText limit s) b after r) same-buffer h
+  pub answers-next : (r : Printed) → Answers (printText limit s) mid after r → Answers (printText limit s) before after r
+  answers-next r h = subst (λ (b : List ℕ). Answers (printText limit s) b after r) same-buffer h
 
 -- a refusal of the reading is the text's, once a byte that starts no token was looked for
 pub refused-next :
-    {limit : ℕ} {s before after : List ℕ} (x r : Refusal)
+    (limit : ℕ) (s before after : List ℕ) (x r : Refusal)
     → KeptAs limit s before after (Refused x)
     → length s ≤ 16384
     → FirstFault s x r
     → Answers (printText limit s) before after (printed.Refused r)
 unfolding KeptAs
-refused-next {limit} {s} {before} {after} x r g h f =
+refused-next limit s before after x r g h f =
     subst (λ (b : List ℕ). Answers (printText limit s) before b (printed.Refused r)) (sym (g .1))
     (refused-answers limit s before r (f limit h (g .0)))

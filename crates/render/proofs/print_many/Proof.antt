@@ -13,11 +13,6 @@ use Rattle.render.specs.Text.{KeptAs}
 use Rattle.render.proofs.Keeping.{Keeping, none-kept, one-kept, refused-then, accepted-then, Putting, none-put, this-readable, this-room, one-put, all-put}
 use Rattle.render.proofs.print_many.Statement.{statement}
 use Rattle.render.proofs.print_many.Tie as tie
-use Rattle.render.proofs.print_many.Reads as reads
-use Rattle.render.proofs.print_many.Lts as lts
-use Rattle.render.proofs.many_forms.Reads as many-forms-reads
-use Rattle.render.proofs.put_next.Reads as put-next-reads
-use Rattle.statements.proofs.next_statement.Reads as next-statement-reads
 
 abbrev Inv-loop : tie.InvT-loop
 Inv-loop text classes labels keys out limit forms₀ count₀ cur₀ forms count cur = Keeping limit text forms count cur × (length forms ≡ 256)
@@ -38,7 +33,7 @@ loop-holds : tie.Need-loop-holds Inv-loop μ-loop Inv-loop2 μ-loop2
 loop-holds c = (none-kept _ _ _, c .many-forms .ensures)
 
 next-statement-requires : tie.Need-next-statement-requires Inv-loop μ-loop Inv-loop2 μ-loop2
-next-statement-requires c κs = 
+next-statement-requires c κs =
     let p = c .before .before .before .before .pre in
     (p .0, p .1, p .2, c .loop .inv .0 .few)
 
@@ -82,11 +77,10 @@ loop-less : tie.Need-loop-less Inv-loop μ-loop Inv-loop2 μ-loop2
 loop-less c = omega (arith, forward (c .before .before))
 
 loop-again : tie.Need-loop-again Inv-loop μ-loop Inv-loop2 μ-loop2
-loop-again c = 
+loop-again c =
     let f = c .before .before in
     let l = f .before .before .before in
-    let x = f .form .given .0 in
-    (
+    let x = f .form .given .0 in (
       one-kept (l .loop .inv .0) (x .0) (x .1 .0 .at) (ahead f) (omega (arith, c .if1 .left, l .loop .inv .1)) (forward f .0),
       length-set (l .loop .forms) (l .loop .count) (x .0) ∙ l .loop .inv .1,
     )
@@ -99,13 +93,13 @@ enum-known-r c = search needs
 
 returns-2 : tie.Need-returns-2 Inv-loop μ-loop Inv-loop2 μ-loop2
 unfolding KeptAs nextThen
-returns-2 c = 
+returns-2 c =
     let d = c .before .before .before in
     (refused-then (d .before .loop .inv .0) _ _ (d .next-statement .ensures .0 ∙ ap (nextThen _ _ _) (c .before .r .given .1)), refl)
 
 loop2-holds : tie.Need-loop2-holds Inv-loop μ-loop Inv-loop2 μ-loop2
 unfolding nextThen
-loop2-holds c = 
+loop2-holds c =
     let d = c .before .before in
     let l = d .before in
     none-put _ _ _ (l .loop .forms) (l .loop .count)
@@ -119,7 +113,7 @@ array-copy-out-form : tie.Need-array-copy-out-form Inv-loop μ-loop Inv-loop2 μ
 array-copy-out-form c = omega (arith, c .before .loop2 .inv .held, c .loop2-test .taken, c .before .before .before .before .before .loop .inv .1)
 
 put-next-requires : tie.Need-put-next-requires Inv-loop μ-loop Inv-loop2 μ-loop2
-put-next-requires c κs = 
+put-next-requires c κs =
     let k = c .before .before in
     let g = k .before .loop2 .inv in
     let p = k .before .before .before .before .before .before .before .before .before .pre in
@@ -132,7 +126,7 @@ loop2-less : tie.Need-loop2-less Inv-loop μ-loop Inv-loop2 μ-loop2
 loop2-less c = omega (arith, c .before .before .before .before .before .loop2-test .taken)
 
 loop2-again : tie.Need-loop2-again Inv-loop μ-loop Inv-loop2 μ-loop2
-loop2-again c = 
+loop2-again c =
     let p = c .before .before in
     let k = p .before .before .before in
     one-put (k .before .loop2 .inv) _ (k .loop2-test .taken) (p .put-next .ensures)
@@ -142,7 +136,7 @@ same-length c = as-long (c .before .loop2 .inv .gone)
 
 returns-3 : tie.Need-returns-3 Inv-loop μ-loop Inv-loop2 μ-loop2
 unfolding KeptAs
-returns-3 c = 
+returns-3 c =
     let k = c .before in
     all-put (k .loop2 .inv) (c .loop2-test .left) (k .before .before .before .before .before .before .before .before .pre .4)
 
