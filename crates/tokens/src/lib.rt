@@ -281,7 +281,7 @@ impl Cursor {
         self.token_after_blanks(text, classes)
     }
 
-    // The same. Marks and words that stand at the cursor are answered without a call of `next`; all else goes the long way.
+    // The same. Marks, separators and words that stand at the cursor are answered without a call of `next`; all else goes the long way.
     pub fn token(self, text: &[u8], classes: &[u8; 256]) -> Token
         requires { ⌜ now classes ≡ classTable ⌝ }
         ensures { λ r. ⌜ r ≡ tokenAt (now (text .entry)) (self .at) ⌝ }
@@ -289,9 +289,17 @@ impl Cursor {
         let at = self.at;
         if at < text.len() {
             let byte = text[at];
-            if class_at(text, classes, at) == 2 {
+            let class = class_at(text, classes, at);
+            if class == 2 {
                 return Token {
                     kind: byte,
+                    start: at,
+                    next: Cursor { at: at + 1 },
+                };
+            }
+            if class < 2 {
+                return Token {
+                    kind: b';',
                     start: at,
                     next: Cursor { at: at + 1 },
                 };
