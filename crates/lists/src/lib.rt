@@ -130,7 +130,7 @@ fn with_mode(list: ModeList, place: u8) -> ModeList
 }
 
 // A mode's place in its family; 0 for what is none.
-fn mode_or_0(text: &[u8], labels: &[u8; 608], family: Family, name: Name) -> u8
+pub fn mode_or_0(text: &[u8], labels: &[u8; 608], family: Family, name: Name) -> u8
     requires { ⌜ (now labels ≡ labelTable) × InText (now text) name ⌝ }
     ensures { λ r. ⌜ r ≡ placeOr0 (find (nameIn (now (text .entry)) name .spelling) (labelsOf family)) ⌝ }
 {

@@ -48,12 +48,15 @@ some-label VariabilityEffect = lit< tt
 some-label VariabilityLevel = lit< tt
 
 -- what the entries of a list are taken for are places of the family
-place-is : (f : Family) (w : List ℕ) → isPlace f (placeOr0 (find w (labelsOf f))) ≡ true
-place-is f w = go (find w (labelsOf f)) refl
+pub place-within : (f : Family) (w : List ℕ) → placeOr0 (find w (labelsOf f)) < length (labelsOf f)
+place-within f w = go (find w (labelsOf f)) refl
   where
-    go : (r : Option ℕ) → find w (labelsOf f) ≡ r → isPlace f (placeOr0 r) ≡ true
-    go none e = lt-ltb 0 (length (labelsOf f)) (some-label f)
-    go (some i) e = lt-ltb i (length (labelsOf f)) (found-at w (labelsOf f) i e .within)
+    go : (r : Option ℕ) → find w (labelsOf f) ≡ r → placeOr0 r < length (labelsOf f)
+    go none e = some-label f
+    go (some i) e = found-at w (labelsOf f) i e .within
+
+place-is : (f : Family) (w : List ℕ) → isPlace f (placeOr0 (find w (labelsOf f))) ≡ true
+place-is f w = lt-ltb (placeOr0 (find w (labelsOf f))) (length (labelsOf f)) (place-within f w)
 
 places-are : (f : Family) (is : List Item) → all (isPlace f) (placesIn f is) ≡ true
 places-are f [] = refl

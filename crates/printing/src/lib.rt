@@ -266,7 +266,29 @@ fn put_chosen(labels: &[u8; 608], family: Family, places: &[u8], out: &mut [u8],
     writing::put(out, last, b']')
 }
 
-// The modes of a list, each once.
+// The label of a list's only mode, straight from the table.
+fn put_lone_mode(
+    text: &[u8],
+    classes: &[u8; 256],
+    labels: &[u8; 608],
+    family: Family,
+    items: Items,
+    out: &mut [u8],
+    at: usize,
+) -> usize
+    requires { ⌜ (now classes ≡ classTable) × (now labels ≡ labelTable) × Listed (now text) items × (items .count ≡ 1)
+        × Room at (spellAll (modesShapes family (modesIn (now text) family (Modes.List items)))) ⌝ }
+    ensures { λ r. ⌜ Written (now (out .entry)) at
+        (spellAll (modesShapes family (modesIn (now (text .entry)) family (Modes.List items))))
+        (now (out .exit)) r ⌝ }
+{
+    let item = checks::item_at(text, classes, items.first);
+    let place = lists::mode_or_0(text, labels, family, item.name);
+    let label = labels::mode_label(labels, family, place as usize);
+    writing::put_all(out, at, label)
+}
+
+// The modes of a list, each once; most lists have one entry, and need no array.
 fn put_mode_list(
     text: &[u8],
     classes: &[u8; 256],
@@ -282,6 +304,9 @@ fn put_mode_list(
         (spellAll (modesShapes family (modesIn (now (text .entry)) family (Modes.List items))))
         (now (out .exit)) r ⌝ }
 {
+    if items.count == 1 {
+        return put_lone_mode(text, classes, labels, family, items, out, at);
+    }
     let list = lists::modes_of(text, classes, labels, family, items);
     let places = list.places;
     let count = list.count;

@@ -1,4 +1,4 @@
--- `printing::put_mode_list` meets its contract: the array holds the modes of the list.
+-- `printing::put_mode_list` meets its contract: a list of one entry has its own call, and of any other the array holds the modes.
 -- Assumes nothing.
 use borrow.Author.Needs.{needs}
 use mathlib.Core.Path.{_≡_, sym}
@@ -16,6 +16,15 @@ use Rattle.printing.proofs.put_mode_list.Tie as tie
 held : (c : tie.After-modes-of) → length (c .modes-of .result .places) ≡ 64
 held c = search needs
 
+put-lone-mode-requires : tie.Need-put-lone-mode-requires
+put-lone-mode-requires c κs = search needs
+
+same-length : tie.Need-same-length
+same-length c = search needs
+
+returns : tie.Need-returns
+returns c = search needs
+
 modes-of-requires : tie.Need-modes-of-requires
 modes-of-requires c κs = search needs
 
@@ -29,16 +38,16 @@ put-chosen-requires : tie.Need-put-chosen-requires
 unfolding modesIn
 put-chosen-requires c κs =
     let m = c .before .before .before in
-    let a = m .before .before .before in
+    let a = m .before .before .before .before .before in
     let e = m .modes-of .ensures .0 in
     (a .pre .1, rw e (list-places (a .args .family) (itemsIn (now (a .args .text)) (a .args .items))), rw e (a .pre .3))
 
-same-length : tie.Need-same-length
-same-length c = search needs
+same-length-2 : tie.Need-same-length-2
+same-length-2 c = search needs
 
-returns : tie.Need-returns
+returns-2 : tie.Need-returns-2
 unfolding modesIn
-returns c =
+returns-2 c =
     let m = c .before .before .before .before .before .before in
     rw (m .modes-of .ensures .0) at (c .before .before .put-chosen .ensures)
 
@@ -46,9 +55,12 @@ pub put-mode-list-spec : {M : Type 1} → statement M
 put-mode-list-spec =
     tie.close
     (tie.spec
+    put-lone-mode-requires
+    same-length
+    returns
     modes-of-requires
     array-share-prefix-places
     slice-aggregate-put-chosen
     put-chosen-requires
-    same-length
-    returns)
+    same-length-2
+    returns-2)
