@@ -4,3 +4,4 @@ pub mod Steps
 pub mod Numbers
 pub mod Firsts
 pub mod Views
+pub mod Scans

@@ -66,6 +66,11 @@ pub record Skipped (s : List ℕ) (o r : ℕ) : Type 0 where
   pub same : tokensAt o (drop o s) ≡ tokensAt r (drop r s)
   pub stands : r < length s → classBetween 4 5 (getD s r 0) ≡ false
 
+-- a scan from the first offset finds what one from the second finds, and the second lies in the text where it is further on
+pub record ScansOn (s : List ℕ) (o r : ℕ) : Type 0 where
+  pub same : scanned (tokensAt o (drop o s)) ≡ scanned (tokensAt r (drop r s))
+  pub within : o < r → r ≤ length s
+
 -- a point stands at the offset
 pub record PointAt (s : List ℕ) (o : ℕ) : Type 0 where
   pub inside : o < length s

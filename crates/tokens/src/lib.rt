@@ -5,7 +5,7 @@ ghost use lib.ListN.{length, drop, getD};
 ghost use Rattle.text.specs.Bytes.{span};
 ghost use Rattle.tokens.specs.Class.{classTable, classBetween, classNumber};
 ghost use Rattle.tokens.specs.Lex.{tokensAt, tokens, numberRest};
-ghost use Rattle.tokens.specs.Next.{cursor, first, tokenAt, scanned, Passed, PointAt, Skippable, Skipped};
+ghost use Rattle.tokens.specs.Next.{cursor, first, tokenAt, scanned, Passed, PointAt, ScansOn, Skippable, Skipped};
 
 // The class of each byte, by its number: 0 newline, 1 semicolon, 2 mark, 3 dot, 4 blank, 5 hash, 6 other, 7 hyphen,
 // 8 digit, 9 letter; sixteen bytes a row. A call that reads a text makes this table a local once and lends it to every function below.
@@ -309,23 +309,50 @@ impl Cursor {
     }
 }
 
-// Whether each byte of the text stands in a token, a blank or a comment, or which is the first that does not.
+// The offset after a blank, a mark, a separator or a word at `at`; `at` itself where something else stands, or the text's end.
+fn plain_end(text: &[u8], classes: &[u8; 256], at: usize) -> usize
+    requires { ⌜ now classes ≡ classTable ⌝ }
+    ensures { λ r. ⌜ ScansOn (now (text .entry)) at r ⌝ }
+{
+    if text.len() <= at {
+        return at;
+    }
+    let class = class_at(text, classes, at);
+    if class == 9 {
+        return word_end(text, classes, at + 1);
+    }
+    if class < 3 {
+        return at + 1;
+    }
+    if class == 4 {
+        return at + 1;
+    }
+    at
+}
+
+// Whether each byte of the text stands in a token, a blank or a comment, or which is the first that does not. Most of a text is blanks,
+// marks, separators and words, which are passed without a token being made of them.
 pub fn scan(text: &[u8], classes: &[u8; 256]) -> Scanned
     requires { ⌜ now classes ≡ classTable ⌝ }
     ensures { λ r. ⌜ r ≡ scanned (tokens (now (text .entry))) ⌝ }
 {
     let mut at = 0;
     loop {
-        let c = Cursor { at };
-        let token = c.token(text, classes);
-        if token.kind == 2 {
-            return Scanned::Stray(token.start);
+        let end = plain_end(text, classes, at);
+        if at < end {
+            at = end;
+        } else {
+            let c = Cursor { at };
+            let token = c.token_after_blanks(text, classes);
+            if token.kind == 2 {
+                return Scanned::Stray(token.start);
+            }
+            if token.kind == 3 {
+                return Scanned::Whole;
+            }
+            let next = token.next;
+            at = next.at;
         }
-        if token.kind == 3 {
-            return Scanned::Whole;
-        }
-        let next = token.next;
-        at = next.at;
     }
 }
 

@@ -1,0 +1,44 @@
+-- What a scan finds at an offset where a blank, a mark, a separator or a word stands: what it finds after it.
+-- Assumes nothing.
+use mathlib.Core.Path.{_≡_, refl, _∙_, ap, sym, fun-ext}
+use mathlib.Core.Bool.{Bool}
+use mathlib.Core.List.{List}
+use Prim.Native.Nat.{ℕ, zero, suc, _+_, _<_, _≤_}
+use native.Mathlib.Omega.{arith}
+use lib.ListN.{length, drop, length-drop}
+use Rattle.text.specs.Bytes.{span}
+use Rattle.tokens.specs.Class.{classNumber, classBetween}
+use Rattle.tokens.specs.Next.{ScansOn, scanned}
+use Rattle.tokens.proofs.Classes.{word-run}
+use Rattle.tokens.proofs.Runs.{span-most}
+use Rattle.tokens.proofs.Steps.{from, byte, past-blank, at-separator, at-mark, at-word}
+
+-- nothing is passed
+pub scans-nothing : (s : List ℕ) (i : ℕ) → ScansOn s i i
+scans-nothing s i = record { same = refl; within = λ l. absurd (omega arith) }
+
+module _ (s : List ℕ) (i : ℕ) (h : i < length s) where
+  pub scans-blank : classNumber (byte s i) ≡ 4 → ScansOn s i (i + 1)
+  scans-blank e = record { same = ap scanned (past-blank s i h e); within = λ l. omega arith }
+
+  -- a mark or a separator
+  pub scans-mark : classNumber (byte s i) ≤ 2 → ScansOn s i (i + 1)
+  unfolding scanned
+  scans-mark l = record { same = go (classNumber (byte s i)) refl l; within = λ f. omega arith }
+    where
+      go : (n : ℕ) → classNumber (byte s i) ≡ n → n ≤ 2 → scanned (from s i) ≡ scanned (from s (i + 1))
+      go zero e l = ap scanned (at-separator s i h (omega arith))
+      go (suc zero) e l = ap scanned (at-separator s i h (omega arith))
+      go (suc (suc zero)) e l = ap scanned (at-mark s i h e)
+      go (suc (suc (suc n))) e l = absurd (omega arith)
+
+  pub scans-word : (n : ℕ) → n ≡ i + 1 + span (classBetween 7 9) (drop (i + 1) s) → classNumber (byte s i) ≡ 9 → ScansOn s i n
+  unfolding scanned
+  scans-word n r e =
+      record {
+        same =
+            ap scanned (at-word s i h e)
+            ∙ ap (λ (p : ℕ → Bool). scanned (from s (i + 1 + span p (drop (i + 1) s)))) (sym (fun-ext word-run))
+            ∙ ap (λ (m : ℕ). scanned (from s m)) (sym r);
+        within = λ l. omega (arith, r, simp length-drop at (span-most (classBetween 7 9) (drop (i + 1) s)));
+      }
