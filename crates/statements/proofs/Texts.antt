@@ -1,7 +1,8 @@
 -- What becomes of a whole text, by its length, its bytes and its statements.
 -- Assumes nothing.
-use mathlib.Core.Path.{_≡_, ap}
+use mathlib.Core.Path.{_≡_, _∙_, ap}
 use mathlib.Core.List.{List}
+use mathlib.Core.Option.{Option}
 use Prim.Native.Nat.{ℕ, _≤_, _<_}
 use borrow.Author.Tests.{lt-ltb, le-ltb}
 use lib.ListN.{length}
@@ -9,10 +10,13 @@ use Rattle.tokens.specs.declared.Scanned.{Scanned}
 use Rattle.tokens.specs.declared.Scanned.the-variants.{Whole, Stray}
 use Rattle.tokens.specs.Lex.{tokens}
 use Rattle.tokens.specs.Next.{scanned}
+use Rattle.reading.specs.Statement.{Statement}
 use Rattle.reading.specs.Answer.{accepted, tooLong, badByte}
 use Rattle.reading.specs.Read.{between, readScanned, readText}
 use Rattle.reading_laws.proofs.Scanning.{accepted-whole}
-use Rattle.statements.specs.Answers.{readAt, counted}
+use Rattle.reading_laws.proofs.Joining.{accepted-text}
+use Rattle.statements.specs.Answers.{readAt, counted, indexed, chosen, nthOf}
+use Rattle.statements.proofs.Indexes.{indexed-accepted}
 use Rattle.statements.proofs.Whole.{counted-accepted}
 
 module _ (limit : ℕ) (s : List ℕ) where
@@ -37,3 +41,10 @@ module _ (limit : ℕ) (s : List ℕ) where
     counted-text n e =
         let a = counted-accepted 0 n (readAt limit s 0 between 0) e in
         whole-text (accepted-whole limit (length s) 0 between (tokens s) (a .0) (a .1))
+
+    -- the statement at an index of those that were read is that of the text
+    pub indexed-text :
+        (i : ℕ) (o : Option Statement) → indexed i (readAt limit s 0 between 0) ≡ accepted o → nthOf i (readText limit s) ≡ chosen i o
+    indexed-text i o e =
+        let a = indexed-accepted i o (readAt limit s 0 between 0) e in
+        ap (nthOf i) (accepted-text limit s (a .0) h (a .1)) ∙ ap (chosen i) (a .2)

@@ -23,6 +23,8 @@ use Rattle.statements.specs.declared.NextRead.{NextRead}
 use Rattle.statements.specs.declared.NextRead.the-variants as nextRead
 use Rattle.statements.specs.declared.StatementAt.{StatementAt}
 use Rattle.statements.specs.declared.StatementAt.the-variants as statementAt
+use Rattle.statements.specs.declared.NthRead.{NthRead}
+use Rattle.statements.specs.declared.NthRead.the-variants as nthRead
 use Rattle.statements.specs.declared.CountRead.{CountRead}
 use Rattle.statements.specs.declared.CountRead.the-variants as countRead
 
@@ -87,6 +89,16 @@ counted n (refused k p) = refused k p
 unfoldable pub countAs : CountRead → Answer ℕ
 countAs (countRead.Count n) = accepted n
 countAs (countRead.Refused r) = refused (r .number) (r .place)
+
+-- the statement at an index of those that were read, if there are so many
+abbrev pub indexed : ℕ → Answer (List Statement) → Answer (Option Statement)
+indexed i (accepted ss) = accepted (getElem? ss i)
+indexed i (refused k p) = refused k p
+
+unfoldable pub nthAs : List ℕ → NthRead → Answer (Option Statement)
+nthAs s (nthRead.Statement f) = accepted (some (statementIn s f))
+nthAs s nthRead.Missing = accepted none
+nthAs s (nthRead.Refused r) = refused (r .number) (r .place)
 
 -- the statement at an index; 20 where there are not so many
 abbrev pub chosen : ℕ → Option Statement → Answer Statement

@@ -1,6 +1,5 @@
 // The statements of a text, one after the other.
 ghost use mathlib.Core.Path.{_≡_};
-ghost use mathlib.Core.List.{List};
 ghost use Prim.Native.Nat.{ℕ, _≤_, _<_};
 ghost use lib.ListN.{length};
 ghost use Rattle.text.specs.Bytes.{bytes};
@@ -10,17 +9,16 @@ ghost use Rattle.tokens.specs.Next.{tokenAt};
 ghost use Rattle.labels.specs.Word.{sameWord};
 ghost use Rattle.labels.specs.Table.{labelTable, keywordTable};
 ghost use Rattle.reading.specs.Syntax.{keyword, letKeyword, opened};
-ghost use Rattle.reading.specs.Statement.{Statement as Statement·spec};
-ghost use Rattle.reading.specs.Answer.{accepted};
 ghost use Rattle.reading.specs.Read.{between, readText};
 ghost use Rattle.forms.specs.Items.{nameIn};
 ghost use Rattle.forms.specs.Fits.{InText};
 ghost use Rattle.arguments.specs.Answers.{readIn, stepIn};
-ghost use Rattle.statements.specs.Answers.{statementThen, StatementFurther, FirstToken, EndedThen, EndedFurther, crowdedBy, readAt, nextThen, NextFurther, FirstFault, counted, countAs, nthOf, statementAs};
+ghost use Rattle.statements.specs.Answers.{statementThen, StatementFurther, FirstToken, EndedThen, EndedFurther, crowdedBy, readAt, nextThen, NextFurther, FirstFault, counted, countAs, indexed, nthAs, nthOf, statementAs};
 use calls::FeatureRead;
 use calls::LetRead;
 use checks::ItemsRead;
 use features::Built;
+use forms::Items;
 use forms::Name;
 use forms::Refusal;
 use forms::Statement;
@@ -50,6 +48,13 @@ pub enum NextRead {
 // A statement of a text, or why there is none.
 pub enum StatementAt {
     Statement(Statement),
+    Refused(Refusal),
+}
+
+// The statement at an index among those that were read to the text's end, that there are not so many, or a refusal.
+enum NthRead {
+    Statement(Statement),
+    Missing,
     Refused(Refusal),
 }
 
@@ -295,7 +300,8 @@ pub fn count(text: &[u8]) -> CountRead
     count_under(text, 64)
 }
 
-// The statement at an index, where every statement can be read; 20 where there are not so many.
+// The statement at an index, in one reading of the text. It is kept where it comes by (before that any form stands for it), and reading goes
+// on to the end, for a fault behind it refuses the text.
 fn nth(
     text: &[u8],
     classes: &[u8; 256],
@@ -303,30 +309,35 @@ fn nth(
     keys: &[u8; 240],
     index: usize,
     limit: u32,
-) -> StatementAt
+) -> NthRead
     requires { ⌜ (now classes ≡ classTable) × (now labels ≡ labelTable) × (now keys ≡ keywordTable) ⌝ }
-    ensures { λ r. ⌜
-        ((ss : List Statement·spec)
-        → readAt limit (now (text .entry)) 0 between 0 ≡ accepted ss
-        → statementAs (now (text .entry)) r ≡ nthOf index (accepted ss))
-        ⌝ }
+    ensures { λ r. ⌜ nthAs (now (text .entry)) r ≡ indexed index (readAt limit (now (text .entry)) 0 between 0) ⌝ }
 {
     let mut n = 0;
     let mut cur = 0;
+    let mut kept = Statement::Let {
+        name: Name {
+            offset: 0,
+            length: 0,
+        },
+        values: Items { first: 0, count: 0 },
+    };
     loop {
         match next_statement(text, classes, labels, keys, cur, n, limit) {
             NextRead::Statement(form, next) => {
                 if n == index {
-                    return StatementAt::Statement(form);
+                    kept = form;
                 }
                 cur = next.at;
                 n += 1;
             }
-            NextRead::End => return StatementAt::Refused(Refusal {
-                number: 20,
-                place: index,
-            }),
-            NextRead::Refused(r) => return StatementAt::Refused(r),
+            NextRead::End => {
+                if index < n {
+                    return NthRead::Statement(kept);
+                }
+                return NthRead::Missing;
+            }
+            NextRead::Refused(r) => return NthRead::Refused(r),
         }
     }
 }
@@ -335,14 +346,22 @@ fn nth(
 pub fn statement_under(text: &[u8], index: usize, limit: u32) -> StatementAt
     ensures { λ r. ⌜ statementAs (now (text .entry)) r ≡ nthOf index (readText limit (now (text .entry))) ⌝ }
 {
-    match count_under(text, limit) {
-        CountRead::Refused(r) => StatementAt::Refused(r),
-        CountRead::Count(_) => {
-            let classes = tokens::CLASSES;
-            let labels = labels::LABELS;
-            let keys = labels::KEYWORDS;
-            nth(text, &classes, &labels, &keys, index, limit)
-        }
+    if 16384 < text.len() {
+        return StatementAt::Refused(Refusal {
+            number: 1,
+            place: 0,
+        });
+    }
+    let classes = tokens::CLASSES;
+    let labels = labels::LABELS;
+    let keys = labels::KEYWORDS;
+    match nth(text, &classes, &labels, &keys, index, limit) {
+        NthRead::Statement(form) => StatementAt::Statement(form),
+        NthRead::Missing => StatementAt::Refused(Refusal {
+            number: 20,
+            place: index,
+        }),
+        NthRead::Refused(r) => StatementAt::Refused(earliest(text, &classes, r)),
     }
 }
 

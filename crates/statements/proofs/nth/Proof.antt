@@ -1,35 +1,80 @@
--- `statements::nth` meets its contract. The invariant: what is left to read are the statements from this one on. Assumes nothing.
+-- `statements::nth` meets its contract. The invariant: the statement at the index is among those left, or it is the one that was kept.
+-- Assumes nothing.
 use Prim.Native.Nat.{ℕ, suc, _-_, _≤_}
 use mathlib.Core.Path.{_≡_, _∙_, ap, sym, subst}
-use mathlib.Core.List.{List, []}
+use mathlib.Core.List.{List}
+use mathlib.Core.Logic.{⊎-elim}
 use native.Mathlib.Omega.{arith}
-use lib.ListN.{length}
-use denote.Ref.{now}
 use native.Mathlib.Numerals.{add-one}
 use borrow.Author.Needs.{needs}
-use lib.ListN.{drop, getElem?}
-use Rattle.reading.specs.Statement.{Statement}
-use Rattle.reading.specs.Answer.{accepted}
-use Rattle.reading.specs.Read.{between}
+use lib.ListN.{length}
+use denote.Ref.{now}
+use Rattle.reading.specs.Read.{between, prepend}
+use Rattle.forms.specs.declared.Statement.{Statement}
 use Rattle.forms.specs.Forms.{statementIn}
-use Rattle.statements.specs.Answers.{readAt, nextThen, NextFurther, chosen, statementAs}
-use Rattle.statements.proofs.Indexes.{at-index, one-fewer, past-last, in-front}
+use Rattle.statements.specs.declared.NextRead.the-variants as nextRead
+use Rattle.statements.specs.Answers.{readAt, nextThen, NextFurther, nthAs}
+use Rattle.statements.proofs.Indexes.{Sought, none-passed, kept-here, passed-by, found-kept, found-none, found-refused}
 use Rattle.statements.proofs.nth.Statement.{statement}
 use Rattle.statements.proofs.nth.Tie as tie
 
-record Gone (s : List ℕ) (limit index n cur : ℕ) : Type 0 where
-  left : (ss : List Statement) → readAt limit s 0 between 0 ≡ accepted ss → readAt limit s n between cur ≡ accepted (drop n ss)
+record Gone (s : List ℕ) (limit index n cur : ℕ) (kept : Statement) : Type 0 where
+  sought : Sought index n (statementIn s kept) (readAt limit s 0 between 0) (readAt limit s n between cur)
   few : n ≤ cur
-  early : n ≤ index
 
 abbrev Inv-loop : tie.InvT-loop
-Inv-loop text classes labels keys index limit n₀ cur₀ n cur = Gone text limit index n cur
+Inv-loop text classes labels keys index limit n₀ cur₀ kept₀ n cur kept = Gone text limit index n cur kept
 
 abbrev μ-loop : tie.MeasureT-loop
-μ-loop text classes labels keys index limit n₀ cur₀ n cur = length text - cur
+μ-loop text classes labels keys index limit n₀ cur₀ kept₀ n cur kept = length text - cur
+
+-- the statement that was read, and what is left behind it
+told :
+    (d : tie.After-known-told Inv-loop μ-loop)
+    → let l = d .before .before .before .before in
+    let a = l .before .before .args in
+    let s = now (a .text) in
+    let x = d .before .form .given .0 in
+    readAt (a .limit) s (l .loop .n) between (l .loop .cur)
+    ≡ prepend (statementIn s (x .0)) (readAt (a .limit) s (suc (l .loop .n)) between (x .1 .0 .at))
+unfolding nextThen
+told d =
+    let o = d .before .before .before in
+    let l = o .before in
+    let a = l .before .before .args in
+    o .next-statement .ensures .0 ∙ ap (nextThen (a .limit) (now (a .text)) (l .loop .n)) (d .before .form .given .1)
+
+further :
+    (d : tie.After-known-told Inv-loop μ-loop)
+    → let l = d .before .before .before .before in
+    let x = d .before .form .given .0 in
+    NextFurther (now (l .before .before .args .text)) (l .loop .cur) (nextRead.Statement (x .0) (x .1 .0))
+further d = subst (NextFurther _ _) (d .before .form .given .1) (d .before .before .before .next-statement .ensures .1)
+
+-- what is sought behind it, after so many and with one kept
+abbrev Behind : tie.After-known-told Inv-loop μ-loop → ℕ → Statement → Type 0
+Behind d k form =
+    let l = d .before .before .before .before in
+    let a = l .before .before .args in
+    let s = now (a .text) in
+    Sought (a .index) k (statementIn s form) (readAt (a .limit) s 0 between 0)
+    (readAt (a .limit) s k between (d .before .form .given .0 .1 .0 .at))
+
+sought-behind :
+    (c : tie.Joined1 Inv-loop μ-loop)
+    → Behind (c .before) (suc (c .before .before .before .before .before .loop .n)) (c .if1 .kept)
+sought-behind c =
+    let d = c .before in
+    let l = d .before .before .before .before in
+    let n = suc (l .loop .n) in
+    let g = l .loop .inv .sought in
+    ⊎-elim
+    (λ w. subst (Behind d n) (sym (w .1)) (kept-here g _ _ (told d) (w .0 .taken)))
+    (λ w. subst (Behind d n) (sym (w .1)) (passed-by g _ _ (told d) (w .0 .left)))
+    (c .if1 .came)
 
 loop-holds : tie.Need-loop-holds Inv-loop μ-loop
-loop-holds c = record { left = λ ss e. e; few = omega arith; early = omega arith }
+loop-holds c = record { sought = none-passed _ _ _; few = omega arith }
 
 next-statement-requires : tie.Need-next-statement-requires Inv-loop μ-loop
 next-statement-requires c κs =
@@ -39,98 +84,63 @@ next-statement-requires c κs =
 enum-known-form : tie.Need-enum-known-form Inv-loop μ-loop
 enum-known-form c = search needs
 
-returns : tie.Need-returns Inv-loop μ-loop
-unfolding nextThen statementAs
-returns c =
-    let d = c .before .before .before .before in
-    let x = c .before .before .form .given in
-    let l = d .before in
-    let a = l .before .before .args in
-    let s = now (a .text) in
-    let g = l .loop .inv in
-    let n = l .loop .n in
-    λ ss e.
-    let f = in-front (statementIn s (x .0 .0)) (readAt (a .limit) s (suc n) between (x .0 .1 .0 .at)) (drop n ss) (sym (ap (nextThen (a .limit) s n) (x .1)) ∙ sym (d .next-statement .ensures .0) ∙ g .left ss e) in
-    sym (ap (chosen (a .index)) (ap (getElem? ss) (sym (c .if1 .taken)) ∙ at-index n ss (statementIn s (x .0 .0)) (f .0) (f .2)))
-
 add-n : tie.Need-add-n Inv-loop μ-loop
 unfolding NextFurther
-add-n c =
-    let d = c .before .before .before .before in
-    let x = c .before .before .form .given in
-    let l = d .before in
-    let a = l .before .before .args in
-    let s = now (a .text) in
-    let g = l .loop .inv in
-    let n = l .loop .n in
-    let f = subst (NextFurther s (l .loop .cur)) (x .1) (d .next-statement .ensures .1) in
-    omega (arith, f .0, f .1, g .few)
+add-n c = let f = further (c .before) in omega (arith, f .0, f .1, c .before .before .before .before .before .loop .inv .few)
 
 loop-less : tie.Need-loop-less Inv-loop μ-loop
 unfolding NextFurther
-loop-less c =
-    let d = c .before .before .before .before in
-    let x = c .before .before .form .given in
-    let l = d .before in
-    let a = l .before .before .args in
-    let s = now (a .text) in
-    let g = l .loop .inv in
-    let n = l .loop .n in
-    let f = subst (NextFurther s (l .loop .cur)) (x .1) (d .next-statement .ensures .1) in
-    omega (arith, f .0, f .1)
+loop-less c = let f = further (c .before) in omega (arith, f .0, f .1)
 
 loop-again : tie.Need-loop-again Inv-loop μ-loop
-unfolding nextThen NextFurther
+unfolding NextFurther
 loop-again c =
-    let d = c .before .before .before .before in
-    let x = c .before .before .form .given in
-    let l = d .before in
-    let a = l .before .before .args in
-    let s = now (a .text) in
-    let g = l .loop .inv in
-    let n = l .loop .n in
-    let f = subst (NextFurther s (l .loop .cur)) (x .1) (d .next-statement .ensures .1) in
+    let d = c .before in
+    let l = d .before .before .before .before in
+    let f = further d in
     record {
-      left = λ ss e.
-          let m = in-front (statementIn s (x .0 .0)) (readAt (a .limit) s (suc n) between (x .0 .1 .0 .at)) (drop n ss) (sym (ap (nextThen (a .limit) s n) (x .1)) ∙ sym (d .next-statement .ensures .0) ∙ g .left ss e) in
-          ap (λ (k : ℕ). readAt (a .limit) s k between (x .0 .1 .0 .at)) (add-one n)
-          ∙ m .1
-          ∙ ap accepted (sym (ap (λ (k : ℕ). drop k ss) (add-one n) ∙ one-fewer n ss (statementIn s (x .0 .0)) (m .0) (m .2)));
-      few = omega (arith, f .0, g .few);
-      early = omega (arith, g .early, c .if1 .left);
+      sought = subst (λ (k : ℕ). Behind d k (c .if1 .kept)) (sym (add-one (l .loop .n))) (sought-behind c);
+      few = omega (arith, f .0, l .loop .inv .few);
     }
 
 enum-told : tie.Need-enum-told Inv-loop μ-loop
 enum-told c = search needs
 
-returns-2 : tie.Need-returns-2 Inv-loop μ-loop
-unfolding nextThen statementAs
-returns-2 c =
-    let d = c .before .before in
+returns : tie.Need-returns Inv-loop μ-loop
+unfolding nextThen nthAs
+returns c =
+    let d = c .before .before .before in
     let l = d .before in
     let a = l .before .before .args in
-    let s = now (a .text) in
-    let g = l .loop .inv in
-    let n = l .loop .n in
-    λ ss e.
-    let z : drop n ss ≡ [] = cc (sym (g .left ss e) ∙ d .next-statement .ensures .0 ∙ ap (nextThen (a .limit) s n) (c .enum-told .given .1)) in
-    sym (ap (chosen (a .index)) (past-last n (a .index) ss z (g .early)))
+    sym
+    (found-kept (l .loop .inv .sought)
+    (d .next-statement .ensures .0 ∙ ap (nextThen (a .limit) (now (a .text)) (l .loop .n)) (c .before .enum-told .given .1))
+    (c .if2 .taken))
+
+returns-2 : tie.Need-returns-2 Inv-loop μ-loop
+unfolding nextThen nthAs
+returns-2 c =
+    let d = c .before .before .before in
+    let l = d .before in
+    let a = l .before .before .args in
+    sym
+    (found-none (l .loop .inv .sought)
+    (d .next-statement .ensures .0 ∙ ap (nextThen (a .limit) (now (a .text)) (l .loop .n)) (c .before .enum-told .given .1))
+    (c .if2 .left))
 
 enum-known-r : tie.Need-enum-known-r Inv-loop μ-loop
 enum-known-r c = search needs
 
 returns-3 : tie.Need-returns-3 Inv-loop μ-loop
-unfolding nextThen statementAs
+unfolding nextThen nthAs
 returns-3 c =
+    let x = c .before .r .given in
     let d = c .before .before .before in
     let l = d .before in
     let a = l .before .before .args in
-    let s = now (a .text) in
-    let g = l .loop .inv in
-    let n = l .loop .n in
-    λ ss e.
-    let z : _≡_ {A = ℕ} 0 1 = cc (sym (g .left ss e) ∙ d .next-statement .ensures .0 ∙ ap (nextThen (a .limit) s n) (c .before .r .given .1)) in
-    absurd (omega arith)
+    sym
+    (found-refused (l .loop .inv .sought) (x .0 .0 .number) (x .0 .0 .place)
+    (d .next-statement .ensures .0 ∙ ap (nextThen (a .limit) (now (a .text)) (l .loop .n)) (x .1)))
 
 pub nth-spec : {M : Type 1} → statement M
 nth-spec =
@@ -141,11 +151,11 @@ nth-spec =
     loop-holds
     next-statement-requires
     enum-known-form
-    returns
     add-n
     loop-less
     loop-again
     enum-told
+    returns
     returns-2
     enum-known-r
     returns-3)

@@ -1,50 +1,79 @@
--- `statements::statement_under` meets its contract: what Count refuses is refused, and else the statement is looked for. Assumes nothing.
+-- `statements::statement_under` meets its contract: a long text, then a byte that starts no token, then the statements, and 20 only behind
+-- them. Assumes nothing.
 use mathlib.Core.Path.{refl, _∙_, ap, sym}
 use denote.Ref.{now}
 use Rattle.tokens.specs.Class.{classOf, classTable}
 use Rattle.labels.specs.Label.{labelsOf, keywords}
 use Rattle.labels.specs.Table.{labelTable, keywordTable}
-use Rattle.reading.specs.Read.{readText}
-use Rattle.reading_laws.proofs.Joining.{text-accepted}
-use Rattle.statements.specs.Answers.{countAs, nthOf, statementAs}
-use Rattle.statements.proofs.Whole.{counted-accepted, counted-refused}
+use Rattle.statements.specs.Answers.{nthAs, nthOf, statementAs}
+use Rattle.statements.proofs.Texts.{long-text, indexed-text}
+use Rattle.statements.proofs.Indexes.{indexed-refused}
 use borrow.Author.Needs.{needs}
 use Rattle.statements.proofs.statement_under.Statement.{statement}
 use Rattle.statements.proofs.statement_under.Tie as tie
 
-count-under-requires : tie.Need-count-under-requires
-count-under-requires c κs = search needs
-
-enum-known-r : tie.Need-enum-known-r
-enum-known-r c = search needs
-
-enum-told : tie.Need-enum-told
-enum-told c = search needs
+returns : tie.Need-returns
+unfolding statementAs
+returns c =
+    let a = c .before .before .args in
+    sym (ap (nthOf (a .index)) (long-text (a .limit) (now (a .text)) (c .if1 .taken)))
 
 nth-requires : tie.Need-nth-requires
 unfolding classTable classOf labelTable labelsOf keywordTable keywords
 nth-requires c κs = (refl, refl, refl)
 
-returns : tie.Need-returns
-unfolding countAs statementAs
-returns c =
-    let d = c .before .before .before in
-    let a = d .before .before .args in
-    let r = c .before .r .given in
-    sym
-    (ap (nthOf (a .index))
-    (counted-refused 0 (r .0 .0 .number) (r .0 .0 .place) (readText (a .limit) (now (a .text))) (sym (d .count-under .ensures) ∙ ap countAs (r .1))))
+enum-known-form : tie.Need-enum-known-form
+enum-known-form c = search needs
+
+enum-told : tie.Need-enum-told
+enum-told c = search needs
+
+enum-known-r : tie.Need-enum-known-r
+enum-known-r c = search needs
+
+earliest-requires : tie.Need-earliest-requires
+unfolding classTable classOf
+earliest-requires c κs = refl
 
 returns-2 : tie.Need-returns-2
-unfolding countAs
+unfolding nthAs statementAs
 returns-2 c =
-    let e = c .before .before .before .before in
-    let d = e .before .before in
-    let a = d .before .before .args in
+    let d = c .before .before .before in
+    let b = d .before .before .before .before in
+    let a = b .before .before .args in
     let s = now (a .text) in
-    let x = counted-accepted 0 _ (readText (a .limit) s) (sym (d .count-under .ensures) ∙ ap countAs (e .enum-told .given .1)) in
-    c .nth .ensures (x .0) (text-accepted (a .limit) s (x .0) (x .1)) ∙ ap (nthOf (a .index)) (sym (x .1))
+    sym (indexed-text (a .limit) s (b .if1 .left) (a .index) _ (sym (d .nth .ensures) ∙ ap (nthAs s) (c .before .form .given .1)))
+
+returns-3 : tie.Need-returns-3
+unfolding nthAs statementAs
+returns-3 c =
+    let d = c .before .before in
+    let b = d .before .before .before .before in
+    let a = b .before .before .args in
+    let s = now (a .text) in
+    sym (indexed-text (a .limit) s (b .if1 .left) (a .index) _ (sym (d .nth .ensures) ∙ ap (nthAs s) (c .enum-told .given .1)))
+
+returns-4 : tie.Need-returns-4
+unfolding nthAs statementAs
+returns-4 c =
+    let r = c .before .before .before .r .given in
+    let d = c .before .before .before .before .before in
+    let b = d .before .before .before .before in
+    let a = b .before .before .args in
+    let s = now (a .text) in
+    let e = indexed-refused (a .index) (r .0 .0 .number) (r .0 .0 .place) _ (sym (d .nth .ensures) ∙ ap (nthAs s) (r .1)) in
+    sym (ap (nthOf (a .index)) (c .earliest .ensures (a .limit) (b .if1 .left) e))
 
 pub statement-under-spec : {M : Type 1} → statement M
 statement-under-spec =
-    tie.close (tie.spec count-under-requires enum-known-r enum-told nth-requires returns returns-2)
+    tie.close
+    (tie.spec
+    returns
+    nth-requires
+    enum-known-form
+    enum-told
+    enum-known-r
+    earliest-requires
+    returns-2
+    returns-3
+    returns-4)
