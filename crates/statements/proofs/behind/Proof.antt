@@ -1,4 +1,5 @@
--- `statements::behind` meets its contract: a separator or the text's end may follow a statement, and reading goes on from it. Assumes nothing.
+-- `statements::behind` meets its contract: a separator or the text's end may follow a statement, and reading goes on behind it.
+-- Assumes nothing.
 use mathlib.Core.Path.{_∙_, ap, sym}
 use native.Mathlib.Omega.{arith}
 use denote.Ref.{now}
