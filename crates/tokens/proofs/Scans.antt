@@ -1,4 +1,4 @@
--- What a scan finds at an offset where a blank, a mark, a separator or a word stands: what it finds after it.
+-- What a scan finds at an offset where a blank, a comment, a mark, a separator or a word stands: what it finds after it.
 -- Assumes nothing.
 use mathlib.Core.Path.{_≡_, refl, _∙_, ap, sym, fun-ext}
 use mathlib.Core.Bool.{Bool}
@@ -8,19 +8,20 @@ use native.Mathlib.Omega.{arith}
 use lib.ListN.{length, drop, length-drop}
 use Rattle.text.specs.Bytes.{span}
 use Rattle.tokens.specs.Class.{classNumber, classBetween}
-use Rattle.tokens.specs.Next.{ScansOn, scanned}
+use Rattle.tokens.specs.Next.{Passed, ScansOn, scanned}
 use Rattle.tokens.proofs.Classes.{word-run}
 use Rattle.tokens.proofs.Runs.{span-most}
-use Rattle.tokens.proofs.Steps.{from, byte, past-blank, at-separator, at-mark, at-word}
+use Rattle.tokens.proofs.Steps.{from, byte, at-separator, at-mark, at-word}
 
 -- nothing is passed
 pub scans-nothing : (s : List ℕ) (i : ℕ) → ScansOn s i i
 scans-nothing s i = record { same = refl; within = λ l. absurd (omega arith) }
 
-module _ (s : List ℕ) (i : ℕ) (h : i < length s) where
-  pub scans-blank : classNumber (byte s i) ≡ 4 → ScansOn s i (i + 1)
-  scans-blank e = record { same = ap scanned (past-blank s i h e); within = λ l. omega arith }
+-- a blank or a comment
+pub scans-passed : {s : List ℕ} {i r : ℕ} → Passed s i r → ScansOn s i r
+scans-passed p = record { same = ap scanned (p .same); within = λ l. p .within }
 
+module _ (s : List ℕ) (i : ℕ) (h : i < length s) where
   -- a mark or a separator
   pub scans-mark : classNumber (byte s i) ≤ 2 → ScansOn s i (i + 1)
   unfolding scanned

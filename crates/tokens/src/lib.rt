@@ -309,7 +309,7 @@ impl Cursor {
     }
 }
 
-// The offset after a blank, a mark, a separator or a word at `at`; `at` itself where something else stands, or the text's end.
+// The offset after a blank, a comment, a mark, a separator or a word at `at`; `at` itself where something else stands, or the text's end.
 fn plain_end(text: &[u8], classes: &[u8; 256], at: usize) -> usize
     requires { ⌜ now classes ≡ classTable ⌝ }
     ensures { λ r. ⌜ ScansOn (now (text .entry)) at r ⌝ }
@@ -324,8 +324,11 @@ fn plain_end(text: &[u8], classes: &[u8; 256], at: usize) -> usize
     if class < 3 {
         return at + 1;
     }
-    if class == 4 {
-        return at + 1;
+    if class == 3 {
+        return at;
+    }
+    if class < 6 {
+        return passed(text, classes, at, class);
     }
     at
 }

@@ -1,4 +1,4 @@
--- `tokens::plain_end` meets its contract: a scan goes on after a blank, a mark, a separator or a word, or nothing is passed.
+-- `tokens::plain_end` meets its contract: a scan goes on after a blank, a comment, a mark, a separator or a word, or nothing is passed.
 -- Assumes nothing.
 use Prim.Native.Nat.{ℕ, _<_}
 use mathlib.Core.Path.{_∙_, sym}
@@ -6,7 +6,7 @@ use mathlib.Core.List.{List}
 use native.Mathlib.Omega.{arith}
 use lib.ListN.{length}
 use denote.Ref.{now}
-use Rattle.tokens.proofs.Scans.{scans-nothing, scans-blank, scans-mark, scans-word}
+use Rattle.tokens.proofs.Scans.{scans-nothing, scans-passed, scans-mark, scans-word}
 use borrow.Author.Needs.{needs}
 use Rattle.tokens.proofs.plain_end.Statement.{statement}
 use Rattle.tokens.proofs.plain_end.Tie as tie
@@ -47,16 +47,27 @@ returns-3 c =
     let d = c .before .before in
     scans-mark (text d) (start d) (inside d) (omega (arith, d .class-at .ensures, c .if3 .taken))
 
-add-result-2 : tie.Need-add-result-2
-add-result-2 c = search needs
-
 returns-4 : tie.Need-returns-4
-returns-4 c =
-    let d = c .before .before .before in
-    scans-blank (text d) (start d) (inside d) (sym (d .class-at .ensures) ∙ c .if4 .taken)
+returns-4 c = let d = c .before .before .before in scans-nothing (text d) (start d)
+
+passed-requires : tie.Need-passed-requires
+passed-requires c κs =
+    let e = c .before in
+    let d = e .before .before .before in (
+      d .before .before .before .pre,
+      record {
+        inside = inside d;
+        class-is = d .class-at .ensures;
+        least = omega (arith, e .before .if3 .left, e .if4 .left);
+        most = omega (arith, c .if5 .taken);
+      },
+    )
 
 returns-5 : tie.Need-returns-5
-returns-5 c = let d = c .before .before .before in scans-nothing (text d) (start d)
+returns-5 c = scans-passed (c .passed .ensures)
+
+returns-6 : tie.Need-returns-6
+returns-6 c = let d = c .before .before .before .before in scans-nothing (text d) (start d)
 
 pub plain-end-spec : {M : Type 1} → statement M
 plain-end-spec =
@@ -69,6 +80,7 @@ plain-end-spec =
     returns-2
     add-result
     returns-3
-    add-result-2
     returns-4
-    returns-5)
+    passed-requires
+    returns-5
+    returns-6)
