@@ -138,7 +138,7 @@ fn many_forms() -> [Statement; 256]
 }
 
 // The canonical text of a text of at most 32 statements, read once, in a buffer that is as long as the text. An array's length is a part of
-// its type, and an array for every text would cost a short one more than reading it: so this and `print_many` differ in it alone.
+// its type, and a short text is not to pay for an array of 256: so there is this function and `print_many`, which differ in the array alone.
 fn print_few(
     text: &[u8],
     classes: &[u8; 256],
@@ -241,7 +241,8 @@ fn print_kept(
     }
 }
 
-// The canonical text of a text, or why it is refused, read once to know that it is accepted and once more to print it.
+// The canonical text of a text, or why it is refused: the text is read to know whether it is accepted, and again to print it. No form is kept,
+// so that it can be printed twice, the first time to measure it.
 fn print_twice(text: &[u8], out: &mut [u8], limit: u32) -> Printed
     ensures { λ r. ⌜ Answers (printText limit (now (text .entry))) (now (out .entry)) (now (out .exit)) r ⌝ }
 {
