@@ -29,7 +29,7 @@ mod times {
                         PERIPHERALS([0,1,2,3],DRUG)\n";
 
     pub fn main() {
-        let rounds = std::env::args().nth(1).and_then(|word| word.parse().ok()).unwrap_or(50);
+        let rounds = std::env::args().nth(1).and_then(|word| word.parse().ok()).unwrap_or(400);
         let full = of_size(16384);
         let mut late = full.clone();
         late.replace_range(late.len() - 1.., "(");
