@@ -1,4 +1,5 @@
-//! Times the source's own mfl.rs and the library on the same texts, in one run and by turns: the best of several rounds.
+//! Times the source's own mfl.rs and the library on the same texts, in one run and by turns: the best of several rounds, each a turn of every
+//! text.
 //!
 //! usage: bench [ROUNDS]
 //!
@@ -42,24 +43,86 @@ mod times {
         ];
         let accepted = |text: &str| mfl::Mfl::parse(text).is_ok();
 
-        println!("Count, the source's parse beside it");
+        let mut rows = Vec::new();
         for (name, text) in &texts {
-            row(name, text, rounds, parse, |text| count(text.as_bytes()).is_ok());
+            rows.push(Row::new("Count, the source's parse beside it", name, text, parse, |text| count(text.as_bytes()).is_ok()));
         }
-        println!("\nPrint, the source's parse and render beside it");
         for (name, text) in &texts {
-            let mut out = vec![0; text.len()];
-            row(name, text, rounds, parse_and_render, |text| print_into(text.as_bytes(), black_box(&mut out)).is_ok());
+            rows.push(Row::new("Print, the source's parse and render beside it", name, text, parse_and_render, print(text.len())));
         }
-        println!("\nA tree of every statement, the source's parse beside it");
         for (name, text) in texts.iter().filter(|(_, text)| accepted(text)) {
-            row(name, text, rounds, parse, |text| !dumachik::Mfl::parse(text).is_ok_and(|space| space.statements().is_empty()));
+            let tree = |text: &str| !dumachik::Mfl::parse(text).is_ok_and(|space| space.statements().is_empty());
+            rows.push(Row::new("A tree of every statement, the source's parse beside it", name, text, parse, tree));
         }
-        println!("\nPrint as the text grows, the source's parse and render beside it");
         for size in [1024, 4096, 16384] {
-            let (text, mut out) = (of_size(size), vec![0; size]);
-            row("statements", &text, rounds, parse_and_render, |text| print_into(text.as_bytes(), black_box(&mut out)).is_ok());
+            let head = "Print as the text grows, the source's parse and render beside it";
+            rows.push(Row::new(head, "statements", &of_size(size), parse_and_render, print(size)));
         }
+
+        // A round is one turn of every row, so that the rounds of a row are spread over the whole run: a machine that others use as well is
+        // slow for seconds.
+        for _ in 0..rounds {
+            rows.iter_mut().for_each(Row::turn);
+        }
+        for (at, row) in rows.iter().enumerate() {
+            if at == 0 || rows[at - 1].head != row.head {
+                println!("{}{}", if at == 0 { "" } else { "\n" }, row.head);
+            }
+            row.show();
+        }
+    }
+
+    type Call = Box<dyn FnMut(&str) -> bool>;
+
+    /// A text, the source's call and the library's, each at its best so far.
+    struct Row {
+        head: &'static str,
+        name: &'static str,
+        text: String,
+        theirs: Side,
+        ours: Side,
+    }
+
+    struct Side {
+        call: Call,
+        times: u32,
+        best: f64,
+    }
+
+    impl Row {
+        fn new(
+            head: &'static str,
+            name: &'static str,
+            text: &str,
+            mut theirs: impl FnMut(&str) -> bool + 'static,
+            mut ours: impl FnMut(&str) -> bool + 'static,
+        ) -> Self {
+            assert_eq!(theirs(text), ours(text), "{name}: only one of the two accepts it");
+            let side = |mut call: Call| Side { times: times_in_a_round(text, &mut call), call, best: f64::MAX };
+            Row { head, name, text: text.to_string(), theirs: side(Box::new(theirs)), ours: side(Box::new(ours)) }
+        }
+
+        fn turn(&mut self) {
+            self.theirs.turn(&self.text);
+            self.ours.turn(&self.text);
+        }
+
+        fn show(&self) {
+            let (theirs, ours, bytes) = (self.theirs.best, self.ours.best, self.text.len());
+            println!("| {} | {bytes} | {theirs:.0} | {ours:.0} | {:.2} | {:.2} |", self.name, ours / bytes as f64, theirs / ours);
+        }
+    }
+
+    impl Side {
+        fn turn(&mut self, text: &str) {
+            self.best = self.best.min(nanoseconds(text, self.times, &mut self.call));
+        }
+    }
+
+    /// Print into an output of so many bytes.
+    fn print(size: usize) -> impl FnMut(&str) -> bool {
+        let mut out = vec![0; size];
+        move |text| print_into(text.as_bytes(), black_box(&mut out)).is_ok()
     }
 
     fn parse(text: &str) -> bool {
@@ -81,24 +144,7 @@ mod times {
         format!("{:size$}", PAIR.repeat(size / PAIR.len()))
     }
 
-    /// One line: both by turns, each at its best.
-    fn row(name: &str, text: &str, rounds: usize, mut theirs: impl FnMut(&str) -> bool, mut ours: impl FnMut(&str) -> bool) {
-        assert_eq!(theirs(text), ours(text), "{name}: only one of the two accepts it");
-        let (their_times, our_times) = (times_in_a_round(text, &mut theirs), times_in_a_round(text, &mut ours));
-        let (mut their_best, mut our_best) = (f64::MAX, f64::MAX);
-        for _ in 0..rounds {
-            their_best = their_best.min(nanoseconds(text, their_times, &mut theirs));
-            our_best = our_best.min(nanoseconds(text, our_times, &mut ours));
-        }
-        println!(
-            "| {name} | {} | {their_best:.0} | {our_best:.0} | {:.2} | {:.2} |",
-            text.len(),
-            our_best / text.len() as f64,
-            their_best / our_best
-        );
-    }
-
-    fn times_in_a_round(text: &str, call: &mut impl FnMut(&str) -> bool) -> u32 {
+    fn times_in_a_round(text: &str, call: &mut Call) -> u32 {
         let start = Instant::now();
         let mut times = 0;
         while start.elapsed() < ROUND {
@@ -108,7 +154,7 @@ mod times {
         times
     }
 
-    fn nanoseconds(text: &str, times: u32, call: &mut impl FnMut(&str) -> bool) -> f64 {
+    fn nanoseconds(text: &str, times: u32, call: &mut Call) -> f64 {
         let start = Instant::now();
         for _ in 0..times {
             black_box(call(black_box(text)));
