@@ -13,15 +13,16 @@ use Rattle.token_laws.proofs.Tests.{and-left, and-right}
 use Rattle.reading.specs.Statement.{Statement}
 use Rattle.reading.specs.Answer.{Answer, accepted, refused}
 use Rattle.reading.specs.Read.{between, prepend, readText}
+use Rattle.reading_laws.specs.Reads.{prependAll}
 use Rattle.reading_laws.specs.WellFormed.{wellFormed}
+use Rattle.reading_laws.proofs.Joining.{accepted-text}
 use Rattle.reading_laws.proofs.WellRead.{text-well-formed}
 use Rattle.canonical.specs.Canonical.{canonical}
 use Rattle.canonical.specs.Print.{printText}
 use Rattle.canonical_laws.proofs.Shorter.{not-longer}
 use Rattle.forms.specs.declared.Statement as form
 use Rattle.forms.specs.Forms.{statementIn}
-use Rattle.statements.specs.Answers.{readAt, counted, FirstFault}
-use Rattle.statements.proofs.Texts.{counted-text}
+use Rattle.statements.specs.Answers.{readAt, FirstFault}
 use Rattle.values.specs.Lists.{statementLists, Readable}
 use Rattle.values.proofs.Readable.{statement-readable}
 use Rattle.writing.specs.Written.{Room, Written}
@@ -37,10 +38,6 @@ use Rattle.render.proofs.Loop.{canonical-short}
 use Rattle.render.proofs.Answering.{refused-answers, room-answers}
 
 -- statements in front of an answer
-abbrev pub prependAll : List Statement → Answer (List Statement) → Answer (List Statement)
-prependAll [] a = a
-prependAll (x ∷ xs) a = prepend x (prependAll xs a)
-
 prepend-last : (xs : List Statement) (y : Statement) (a : Answer (List Statement)) → prependAll (xs ++ y ∷ []) a ≡ prependAll xs (prepend y a)
 prepend-last [] y a = refl
 prepend-last (x ∷ xs) y a = ap (prepend x) (prepend-last xs y a)
@@ -94,9 +91,7 @@ module _ {limit : ℕ} {s : List ℕ} {forms : List form.Statement} {n cur : ℕ
   -- the end: these are all
   pub accepted-then : length s ≤ 16384 → readAt limit s n between cur ≡ accepted [] → readText limit s ≡ accepted (firstOnes s n forms)
   accepted-then h e =
-      let r : readAt limit s 0 between 0 ≡ accepted (firstOnes s n forms) =
-      g .read ∙ ap (prependAll (firstOnes s n forms)) e ∙ prepend-none (firstOnes s n forms) in
-      counted-text limit s h _ (ap (counted 0) r) ∙ r
+      accepted-text limit s (firstOnes s n forms) h (g .read ∙ ap (prependAll (firstOnes s n forms)) e ∙ prepend-none (firstOnes s n forms))
 
 -- Of the statements that are kept so many are printed, and the others are left.
 pub record Putting (limit : ℕ) (s before now : List ℕ) (forms : List form.Statement) (n i at : ℕ) : Type 0 where
