@@ -1,6 +1,6 @@
 """Requests `print` with their answers: the judge's for texts that the source accepts (those of stated.py, with every form of every argument;
 generated ones; the header comment's; those of Pharmpy's grammar), and each canonical text printed again; refusals with their places,
-limits and texts that the source does not have, by hand."""
+limits and texts that the source does not have, by hand. Then requests with the length of the output, and with `-` for the empty text."""
 import sys
 
 import counted
@@ -52,8 +52,35 @@ NOT_UTF8 = [
     (b"LAGTIME(ON)\xff", b"refused 2 11"),
 ]
 
-# Every line that is no request is answered so.
-LINES = [b"prints", b"PRINT 41", b" print 41", b"print  41", b"print 4", b"print zz", b"print 41 42", b"print 41\r"]
+# Lines that are no requests, and one whose 42 is the length of the output.
+LINES = [(line, judged.NO_REQUEST) for line in [b"prints", b"PRINT 41", b" print 41", b"print  41", b"print 4", b"print zz"]]
+LINES += [(b"print 41 42", b"refused 3 1"), (b"print 41\r", judged.NO_REQUEST)]
+
+# Texts for outputs of several lengths; below, texts that are refused whatever the output.
+ROOMS = [
+    "LAGTIME(ON)", " peripherals( 007 ) # x", "absorption([fo,zo,fo]);Elimination(mm)\n\n;lagtime(*)", "COVARIATE?([CL,V],@X,[lin,exp],+)",
+    "\n".join(["LAGTIME(ON)"] * 40) + "\nIIV(CL,EXP)", "LET(A,[" + ",".join(["B"] * 64) + "])", ";".join(["LAGTIME(ON)"] * 256),
+    "LET(A," + "B" * 16376 + ")", "LET(A," + "B" * 16 + ")" + " " * 16360,
+]
+# Those of them that counted.py has not.
+FAULTS = [("LAGTIME(", 3, 8), ("LAGTIME(ON);PERIPHERALS(65)", 4, 24), ("LAGTIME(ON)$", 2, 11)]
+NO_ROOM = ["LAGTIME(", "FOO()", "LAGTIME(ON);PERIPHERALS(65)", "LAGTIME(ON)$", " " * 16385]
+
+# The empty text as `-`, and outputs of a length, with their answers.
+DASHES = [
+    (b"tokens -", b"ok"), (b"count -", b"ok 0"), (b"statement 0 -", b"refused 20 0"), (b"statement 7 -", b"refused 20 7"), (b"print -", b"ok"),
+    (b"print - 0", b"ok -"), (b"print - 1", b"ok -"), (b"print - 16384", b"ok -"), (b"print - 4294967295", b"ok -"),
+    (b"print 20 0", b"ok -"), (b"print 230a3b 5", b"ok -"), (b"print ff 0", b"refused 2 0"),
+]
+DASHES += [
+    (line, judged.NO_REQUEST)
+    for line in [
+        b"tokens --", b"tokens - ", b"tokens -41", b"tokens 41-", b"tokens - 1", b"count --", b"count - ", b"count - 1", b"count 41 1",
+        b"statement -", b"statement - -", b"statement 0 --", b"statement 0 - ", b"statement 0 - 1", b"statement 0 41 1", b"print --", b"print - ",
+        b"print  0", b"print  - 0", b"print 41 ", b"print 41  1", b"print 41 1 ", b"print 41 1 2", b"print 41 x", b"print 41 -", b"print 41 -1",
+        b"print 41 +1", b"print 41 1x", b"print 4 1", b"print zz 1", b"print 41 4294967296", b"print 41 18446744073709551617",
+    ]
+]
 
 
 def request(text):
@@ -78,7 +105,7 @@ def pairs(program):
     within = [text for text, answer in counted.LIMITS if answer.startswith(b"ok")]
     out += [(request(text.encode()), answer) for text, answer in counted.LIMITS if text not in within]
     out += [(request(text), answer) for text, answer in NOT_UTF8]
-    out += [(b"print", b"ok")] + [(line, judged.NO_REQUEST) for line in LINES]
+    out += [(b"print", b"ok")] + LINES
 
     accepted = [*within, *counted.ACCEPTED, *stated.texts(), judged.header_space(program), *(text for text, refusal in PHARMPY if not refusal)]
     accepted = [text.encode() for text in accepted]
@@ -97,3 +124,21 @@ def pairs(program):
     if told(program, texts) != again:
         sys.exit("the judge prints a canonical text as another")
     return out + [(request(text), answer) for text, answer in zip(texts, again)]
+
+
+def roomed(program):
+    """Requests with the length of the output: too short, exact and longer than the canonical text; of a refused text, its refusal."""
+    out = list(DASHES)
+    texts = [text.encode() for text in ROOMS]
+    for text, answer in zip(texts, told(program, texts)):
+        if not answer.startswith(b"ok "):
+            sys.exit(f"the judge refuses {text!r}: {answer!r}")
+        length = (len(answer) - 3) // 2
+        small = len(text) < 2000
+        short = [0, 1, length // 2, length - 1] if small else [length - 1]
+        out += [(request(text) + b" %d" % room, b"refused 19 0") for room in short]
+        long = [length, length + 1, 16384, 65535, 65536, 65537, 4294967295] if small else [length]
+        out += [(request(text) + b" %d" % room, answer) for room in long]
+    refused = dict(counted.LIMITS)
+    refused.update((text, b"refused %d %d" % (number, place)) for text, number, place in counted.FAULTS + FAULTS)
+    return out + [(request(text.encode()) + b" %d" % room, refused[text]) for text in NO_ROOM for room in ((0, 16384) if len(text) < 2000 else (0,))]

@@ -13,7 +13,7 @@ use Rattle.tokens.specs.Token.{Shape, word, number, mark, Tokens, finish, bad, 
 use Rattle.reading.specs.Statement.{Item}
 use Rattle.reading.specs.One.{halted}
 use Rattle.reading.specs.Syntax.{Call, Step, more, overfull, item, itemRead, turn}
-use Rattle.forms.specs.Items.{tokensFrom, entry, rest, entries, afterEntries, isEntry, listed}
+use Rattle.forms.specs.Items.{tokensFrom, entryOf, rest, entries, afterEntries, isEntry, listed}
 use Rattle.tokens.proofs.Steps.{token}
 use Rattle.tokens.proofs.Views.{Reads, Known, aWord, aNumber, aMark, aStray, theEnd}
 use Rattle.arguments.specs.declared.Entry.{Entry}
@@ -38,7 +38,7 @@ entry-at (theEnd e r l q) h = absurd (omega arith)
 pub one-more :
     (limit : ℕ) (c : Call) (p o : ℕ) (items : List Item) (x : Shape)
     → isEntry x ≡ true
-    → turn limit (item c p items) o x ≡ cond (ltb (length items) 64) (more (itemRead c p (items ++ entry o x ∷ []))) (overfull o)
+    → turn limit (item c p items) o x ≡ cond (ltb (length items) 64) (more (itemRead c p (items ++ entryOf o x ∷ []))) (overfull o)
 unfolding turn
 one-more limit c p o items (word w) e = refl
 one-more limit c p o items (number w) e = refl
@@ -49,7 +49,7 @@ picked b x y e = ap (λ (v : Bool). cond v x y) e
 
 module _ {s : List ℕ} {o : ℕ} {t : lexer.Token} (here : EntryAt s o t) where
   -- the list of the one entry that stands here
-  pub one-entry : entries 1 (tokensFrom s o) ≡ entry (t .start) (here .shape) ∷ []
+  pub one-entry : entries 1 (tokensFrom s o) ≡ entryOf (t .start) (here .shape) ∷ []
   unfolding entries
   one-entry = ap (entries 1) (here .reads .tokens)
 
@@ -97,7 +97,7 @@ unfolding entries afterEntries listed
 entries-more zero ts e = refl
 entries-more (suc n) finish e = absurd (true≢false (sym e))
 entries-more (suc n) (bad o) e = absurd (true≢false (sym e))
-entries-more (suc n) (t ▸ ts) e = ap (λ (l : List Item). entry (t .place) (t .shape) ∷ l) (entries-more n (rest ts) (second (isEntry (t .shape)) (listed n (rest ts)) e))
+entries-more (suc n) (t ▸ ts) e = ap (λ (l : List Item). entryOf (t .place) (t .shape) ∷ l) (entries-more n (rest ts) (second (isEntry (t .shape)) (listed n (rest ts)) e))
   where
     second : (a b : Bool) → (a && b) ≡ true → b ≡ true
     second true b e = e

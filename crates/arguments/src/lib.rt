@@ -69,13 +69,12 @@ pub fn named(token: Token) -> Name
 }
 
 // The name behind an `@` that stands at `sign`.
-fn symbol(text: &[u8], classes: &[u8; 256], sign: usize, at: usize) -> ArgRead
+fn symbol(text: &[u8], classes: &[u8; 256], sign: usize, cur: Cursor) -> ArgRead
     requires { ⌜ now classes ≡ classTable ⌝ }
-    ensures { λ r. ⌜ ((limit : ℕ) (c : Call) → readIn limit (now (text .entry)) (atSign c sign) at ≡ argThen limit (now (text .entry)) c r) ⌝ }
-    ensures { λ r. ⌜ ArgFurther (now (text .entry)) at r ⌝ }
+    ensures { λ r. ⌜ ((limit : ℕ) (c : Call) → readIn limit (now (text .entry)) (atSign c sign) (cur .at) ≡ argThen limit (now (text .entry)) c r) ⌝ }
+    ensures { λ r. ⌜ ArgFurther (now (text .entry)) (cur .at) r ⌝ }
 {
-    let c = Cursor { at };
-    let token = c.token(text, classes);
+    let token = cur.token(text, classes);
     let next = token.next;
     if token.kind != 0 {
         return ArgRead::Refused(unexpected(token));
@@ -123,16 +122,15 @@ fn range_of(text: &[u8], low: Name, high: Name, limit: u32, next: Cursor) -> Arg
 }
 
 // A number, which a `..` and another may follow.
-fn number(text: &[u8], classes: &[u8; 256], name: Name, at: usize, limit: u32) -> ArgRead
-    requires { ⌜ (now classes ≡ classTable) × Stands (now text) aNumber name × (at ≤ length (now text)) ⌝ }
-    ensures { λ r. ⌜ ((c : Call) → readIn limit (now (text .entry)) (numberRead c (nameIn (now (text .entry)) name)) at ≡ argThen limit (now (text .entry)) c r) ⌝ }
-    ensures { λ r. ⌜ ArgFurther (now (text .entry)) at r ⌝ }
+fn number(text: &[u8], classes: &[u8; 256], name: Name, cur: Cursor, limit: u32) -> ArgRead
+    requires { ⌜ (now classes ≡ classTable) × Stands (now text) aNumber name × (cur .at ≤ length (now text)) ⌝ }
+    ensures { λ r. ⌜ ((c : Call) → readIn limit (now (text .entry)) (numberRead c (nameIn (now (text .entry)) name)) (cur .at) ≡ argThen limit (now (text .entry)) c r) ⌝ }
+    ensures { λ r. ⌜ ArgFurther (now (text .entry)) (cur .at) r ⌝ }
 {
-    let c = Cursor { at };
-    let token = c.token(text, classes);
+    let token = cur.token(text, classes);
     let next = token.next;
     if token.kind != b'.' {
-        return ArgRead::Arg(Arg::Number(name), c);
+        return ArgRead::Arg(Arg::Number(name), cur);
     }
     let end = next.token(text, classes);
     if end.kind != 1 {
@@ -144,16 +142,15 @@ fn number(text: &[u8], classes: &[u8; 256], name: Name, at: usize, limit: u32) -
 }
 
 // What stands behind an entry of an array.
-fn after_entry(text: &[u8], classes: &[u8; 256], at: usize) -> Entry
+fn after_entry(text: &[u8], classes: &[u8; 256], cur: Cursor) -> Entry
     requires { ⌜ now classes ≡ classTable ⌝ }
     ensures { λ r. ⌜
         ((limit : ℕ) (c : Call) (p : ℕ) (items : List Item)
-        → readIn limit (now (text .entry)) (itemRead c p items) at ≡ entryThen limit (now (text .entry)) c p items r)
+        → readIn limit (now (text .entry)) (itemRead c p items) (cur .at) ≡ entryThen limit (now (text .entry)) c p items r)
         ⌝ }
-    ensures { λ r. ⌜ EntryFurther (now (text .entry)) at (rest (tokensFrom (now (text .entry)) at)) r ⌝ }
+    ensures { λ r. ⌜ EntryFurther (now (text .entry)) (cur .at) (rest (tokensFrom (now (text .entry)) (cur .at))) r ⌝ }
 {
-    let c = Cursor { at };
-    let token = c.token(text, classes);
+    let token = cur.token(text, classes);
     let next = token.next;
     if token.kind == b',' {
         return Entry::More(next);
@@ -165,19 +162,18 @@ fn after_entry(text: &[u8], classes: &[u8; 256], at: usize) -> Entry
 }
 
 // An entry of an array that has `count` before it, and what stands behind it.
-fn read_entry(text: &[u8], classes: &[u8; 256], at: usize, count: usize) -> Entry
+fn read_entry(text: &[u8], classes: &[u8; 256], cur: Cursor, count: usize) -> Entry
     requires { ⌜ now classes ≡ classTable ⌝ }
     ensures { λ r. ⌜
         ((limit : ℕ) (c : Call) (p : ℕ) (items : List Item)
         → length items ≡ count
-        → readIn limit (now (text .entry)) (item·state c p items) at
-        ≡ entryThen limit (now (text .entry)) c p (items ++ entries 1 (tokensFrom (now (text .entry)) at)) r)
+        → readIn limit (now (text .entry)) (item·state c p items) (cur .at)
+        ≡ entryThen limit (now (text .entry)) c p (items ++ entries 1 (tokensFrom (now (text .entry)) (cur .at))) r)
         ⌝ }
-    ensures { λ r. ⌜ EntryFurther (now (text .entry)) at (rest (rest (tokensFrom (now (text .entry)) at))) r ⌝ }
-    ensures { λ r. ⌜ EntryListed (now (text .entry)) at count r ⌝ }
+    ensures { λ r. ⌜ EntryFurther (now (text .entry)) (cur .at) (rest (rest (tokensFrom (now (text .entry)) (cur .at)))) r ⌝ }
+    ensures { λ r. ⌜ EntryListed (now (text .entry)) (cur .at) count r ⌝ }
 {
-    let c = Cursor { at };
-    let token = c.token(text, classes);
+    let token = cur.token(text, classes);
     let next = token.next;
     if 1 < token.kind {
         return Entry::Refused(unexpected(token));
@@ -188,24 +184,23 @@ fn read_entry(text: &[u8], classes: &[u8; 256], at: usize, count: usize) -> Entr
             place: token.start,
         });
     }
-    after_entry(text, classes, next.at)
+    after_entry(text, classes, next)
 }
 
 // An array whose `[` stands at `bracket`.
-fn array(text: &[u8], classes: &[u8; 256], bracket: usize, at: usize) -> ArgRead
+fn array(text: &[u8], classes: &[u8; 256], bracket: usize, cur: Cursor) -> ArgRead
     requires { ⌜ now classes ≡ classTable ⌝ }
-    ensures { λ r. ⌜ ((limit : ℕ) (c : Call) → readIn limit (now (text .entry)) (arrayOpen c bracket) at ≡ argThen limit (now (text .entry)) c r) ⌝ }
-    ensures { λ r. ⌜ ArgFurther (now (text .entry)) at r ⌝ }
+    ensures { λ r. ⌜ ((limit : ℕ) (c : Call) → readIn limit (now (text .entry)) (arrayOpen c bracket) (cur .at) ≡ argThen limit (now (text .entry)) c r) ⌝ }
+    ensures { λ r. ⌜ ArgFurther (now (text .entry)) (cur .at) r ⌝ }
 {
-    let c = Cursor { at };
-    let token = c.token(text, classes);
+    let token = cur.token(text, classes);
     let next = token.next;
     if token.kind == b']' {
         return ArgRead::Arg(
             Arg::Array {
                 at: bracket,
                 items: Items {
-                    first: at,
+                    first: cur,
                     count: 0,
                 },
             },
@@ -213,21 +208,19 @@ fn array(text: &[u8], classes: &[u8; 256], bracket: usize, at: usize) -> ArgRead
         );
     }
     let mut n = 0;
-    let mut cur = at;
+    let mut from = cur;
     loop {
-        match read_entry(text, classes, cur, n) {
+        match read_entry(text, classes, from, n) {
             Entry::More(c) => {
-                cur = c.at;
+                from = c;
                 n += 1;
             }
             Entry::Done(c) => {
+                let count = n + 1;
                 return ArgRead::Arg(
                     Arg::Array {
                         at: bracket,
-                        items: Items {
-                            first: at,
-                            count: n + 1,
-                        },
+                        items: Items { first: cur, count },
                     },
                     c,
                 );
@@ -238,13 +231,12 @@ fn array(text: &[u8], classes: &[u8; 256], bracket: usize, at: usize) -> ArgRead
 }
 
 // One argument.
-pub fn argument(text: &[u8], classes: &[u8; 256], at: usize, limit: u32) -> ArgRead
+pub fn argument(text: &[u8], classes: &[u8; 256], cur: Cursor, limit: u32) -> ArgRead
     requires { ⌜ now classes ≡ classTable ⌝ }
-    ensures { λ r. ⌜ ((c : Call) → readIn limit (now (text .entry)) (argument·state c) at ≡ argThen limit (now (text .entry)) c r) ⌝ }
-    ensures { λ r. ⌜ ArgFurther (now (text .entry)) at r ⌝ }
+    ensures { λ r. ⌜ ((c : Call) → readIn limit (now (text .entry)) (argument·state c) (cur .at) ≡ argThen limit (now (text .entry)) c r) ⌝ }
+    ensures { λ r. ⌜ ArgFurther (now (text .entry)) (cur .at) r ⌝ }
 {
-    let c = Cursor { at };
-    let token = c.token(text, classes);
+    let token = cur.token(text, classes);
     let next = token.next;
     let kind = token.kind;
     match kind {
@@ -254,12 +246,12 @@ pub fn argument(text: &[u8], classes: &[u8; 256], at: usize, limit: u32) -> ArgR
         }
         1 => {
             let name = named(token);
-            number(text, classes, name, next.at, limit)
+            number(text, classes, name, next, limit)
         }
         b'*' => ArgRead::Arg(Arg::Star(token.start), next),
         b'+' => ArgRead::Arg(Arg::Plus(token.start), next),
-        b'@' => symbol(text, classes, token.start, next.at),
-        b'[' => array(text, classes, token.start, next.at),
+        b'@' => symbol(text, classes, token.start, next),
+        b'[' => array(text, classes, token.start, next),
         b')' => ArgRead::Close {
             at: token.start,
             next,
@@ -269,16 +261,15 @@ pub fn argument(text: &[u8], classes: &[u8; 256], at: usize, limit: u32) -> ArgR
 }
 
 // What stands behind an argument.
-pub fn after_argument(text: &[u8], classes: &[u8; 256], at: usize) -> After
+pub fn after_argument(text: &[u8], classes: &[u8; 256], cur: Cursor) -> After
     requires { ⌜ now classes ≡ classTable ⌝ }
     ensures { λ r. ⌜
         ((limit : ℕ) (c : Call) (a : Arg·spec)
-        → readIn limit (now (text .entry)) (argumentRead c a) at ≡ afterThen limit (now (text .entry)) c a r)
+        → readIn limit (now (text .entry)) (argumentRead c a) (cur .at) ≡ afterThen limit (now (text .entry)) c a r)
         ⌝ }
-    ensures { λ r. ⌜ AfterFurther (now (text .entry)) at r ⌝ }
+    ensures { λ r. ⌜ AfterFurther (now (text .entry)) (cur .at) r ⌝ }
 {
-    let c = Cursor { at };
-    let token = c.token(text, classes);
+    let token = cur.token(text, classes);
     let next = token.next;
     if token.kind == b',' {
         return After::Comma {

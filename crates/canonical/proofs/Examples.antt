@@ -1,5 +1,5 @@
 -- Document 01, Examples: those of reading and printing that are marked to be proved, as one checked list, evaluated on the definitions. Then
--- texts of every feature.
+-- texts of every feature, and the numbers of statements.
 -- Assumes nothing.
 use Prim.Native.Nat.{ℕ}
 use Prim.Native.String.{String}
@@ -20,7 +20,9 @@ use Rattle.reading.specs.Argument.{placeOf, countAt, rangeOf, itemsOf, operandO
 use Rattle.reading.specs.Feature.{keywordOf, transitsOf, explicit, operatorOf, nameOf, featureOf, buildFeature}
 use Rattle.reading.specs.Syntax.{opened, featureMade, letMade, closed, turn}
 use Rattle.reading.specs.Read.{readFrom, readText}
-use Rattle.canonical.specs.Canonical.{keywordFor, isOptional, argumentsOf, statementShapes, textShapes, canonical}
+use Rattle.reading.specs.Parts.{featureParts, partsOf}
+use Rattle.canonical.specs.Numbers.{numbersOf}
+use Rattle.canonical.specs.Canonical.{statementShapes, textShapes, canonical}
 
 -- What becomes of a text: so many statements stand and print as another text, or it is refused by a number at a place.
 pub data Outcome : Type 0 where
@@ -59,6 +61,7 @@ examples =
     ∷ (" peripherals( 007 ) # x" ⟶ prints 1 "PERIPHERALS(7)")
     ∷ ("absorption([fo,zo,fo]);Elimination(mm)\n\n;lagtime(*)" ⟶ prints 3 "ABSORPTION([FO,ZO]);ELIMINATION(MM);LAGTIME(*)")
     ∷ ("peripherals([03],[met]);PERIPHERALS(0000000000064,*)" ⟶ prints 2 "PERIPHERALS([3],MET);PERIPHERALS(64,*)")
+    ∷ ("transits( 00 .. 064 )" ⟶ prints 1 "TRANSITS(0..64)")
     ∷ ("transits([1,01],nodepot)" ⟶ prints 1 "TRANSITS([1,1],NODEPOT)")
     ∷ ("covariate([CL,cl],@Pk,[LIN,Lin],+)" ⟶ prints 1 "COVARIATE([CL,cl],@Pk,lin,+)")
     ∷ ("allometry(WT, 70.50)" ⟶ prints 1 "ALLOMETRY(WT,70.50)")
@@ -75,5 +78,42 @@ unfolding readText readFrom turn opened featureMade letMade closed
     placeOf countAt rangeOf itemsOf operandOf modeList firsts modesOf countList countsOf
     countOf sameWord find labelsOf keywords
     scanned tokensAfter follow frontOf dots numberRest fraction classOf
-    textShapes statementShapes argumentsOf isOptional keywordFor digitsOf digitsIn
+    textShapes statementShapes partsOf featureParts digitsOf digitsIn
 checked = refl
+
+-- The numbers of statements, each kind of argument among them.
+
+pub record Numbered : Type 0 where
+  pub source : String
+  pub numbers : List ℕ
+
+infixl 5 _⇒_
+abbrev pub _⇒_ : String → List ℕ → Numbered
+s ⇒ ns = record { source = s; numbers = ns }
+
+abbrev numbersIn : Answer (List Statement) → List (List ℕ)
+numbersIn (accepted ss) = map numbersOf ss
+numbersIn (refused n p) = []
+
+abbrev pub numbered : List Numbered
+numbered =
+    ("ABSORPTION([ZO,FO])" ⇒ 0 ∷ 0 ∷ 1 ∷ 2 ∷ 2 ∷ 1 ∷ [])
+    ∷ ("PERIPHERALS(07,*)" ⇒ 2 ∷ 0 ∷ 2 ∷ 7 ∷ 0 ∷ [])
+    ∷ ("PERIPHERALS(1..2)" ⇒ 2 ∷ 0 ∷ 3 ∷ 1 ∷ 2 ∷ 9 ∷ [])
+    ∷ ("TRANSITS([1,2],NODEPOT)" ⇒ 3 ∷ 0 ∷ 4 ∷ 2 ∷ 1 ∷ 2 ∷ 1 ∷ 1 ∷ 1 ∷ [])
+    ∷ ("TRANSITS(N)" ⇒ 3 ∷ 0 ∷ 5 ∷ 9 ∷ [])
+    ∷ ("COVARIATE?(*,@Pk,*)" ⇒ 5 ∷ 1 ∷ 0 ∷ 6 ∷ 14 ∷ 2 ∷ 0 ∷ 10 ∷ [])
+    ∷ ("COVARIATE([CL,V],WT,lin,+)" ⇒ 5 ∷ 0 ∷ 7 ∷ 2 ∷ 11 ∷ 2 ∷ 14 ∷ 1 ∷ 7 ∷ 1 ∷ 17 ∷ 2 ∷ 1 ∷ 1 ∷ 0 ∷ 11 ∷ [])
+    ∷ ("ALLOMETRY(WT,70)" ⇒ 6 ∷ 0 ∷ 8 ∷ 10 ∷ 2 ∷ 8 ∷ 13 ∷ 2 ∷ [])
+    ∷ ("IIV?(1,EXP)" ⇒ 11 ∷ 1 ∷ 7 ∷ 1 ∷ 5 ∷ 1 ∷ 1 ∷ 1 ∷ 0 ∷ [])
+    ∷ ("LET(x,[1,y])" ⇒ 14 ∷ 0 ∷ 8 ∷ 4 ∷ 1 ∷ 12 ∷ 2 ∷ 1 ∷ 7 ∷ 1 ∷ 0 ∷ 9 ∷ 1 ∷ [])
+    ∷ []
+
+pub numbers-checked : map (λ e. numbersIn (readText 64 (bytes (e .source)))) numbered ≡ map (λ e. e .numbers ∷ []) numbered
+unfolding readText readFrom turn opened featureMade letMade closed
+    buildFeature featureOf keywordOf transitsOf explicit operatorOf nameOf
+    placeOf countAt rangeOf itemsOf operandOf modeList firsts modesOf countList countsOf
+    countOf sameWord find labelsOf keywords
+    scanned tokensAfter follow frontOf dots numberRest fraction classOf
+    numbersOf partsOf featureParts
+numbers-checked = refl

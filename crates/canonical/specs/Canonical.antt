@@ -7,27 +7,13 @@ use Prim.Native.Char.{Char, code}
 use Prim.Native.String.{String}
 use mathlib.Core.Bool.{Bool, true, false, cond}
 use mathlib.Core.List.{List, [], _∷_, _++_, map}
-use mathlib.Core.Option.{Option, some, none}
 use lib.ListN.{getD}
 use Rattle.text.specs.Bytes.{bytes}
 use Rattle.tokens.specs.Token.{Shape, word, number, mark}
 use Rattle.tokens.specs.Spelling.{isNumber, spellAll}
 use Rattle.counts.specs.Decimal.{digitsOf}
 use Rattle.labels.specs.declared.Family.{Family}
-use Rattle.labels.specs.declared.Family.the-variants.{
-  AbsorptionMode,
-  EliminationMode,
-  PeripheralKind,
-  DepotMode,
-  LagtimeMode,
-  CovariateEffect,
-  PdMode,
-  ProductionMode,
-  MetaboliteMode,
-  VariabilityEffect,
-  VariabilityLevel,
-}
-use Rattle.labels.specs.Label.{labelsOf}
+use Rattle.labels.specs.Label.{labelsOf, keywords}
 use Rattle.reading.specs.Statement.{
   Name,
   Item,
@@ -38,9 +24,6 @@ use Rattle.reading.specs.Statement.{
   count,
   range,
   counts,
-  TransitCounts,
-  estimated,
-  counted,
   Operand,
   everyone,
   symbol,
@@ -48,24 +31,20 @@ use Rattle.reading.specs.Statement.{
   Operator,
   multiply,
   add,
-  Feature,
-  Absorption,
-  Elimination,
-  Peripherals,
-  Transits,
-  Lagtime,
-  Covariate,
-  Allometry,
-  DirectEffect,
-  EffectComp,
-  IndirectEffect,
-  Metabolite,
-  Iiv,
-  Iov,
-  Covariance,
   Statement,
-  Let,
-  feature,
+}
+use Rattle.reading.specs.Parts.{
+  Part,
+  modesPart,
+  countsPart,
+  estimatedPart,
+  operandPart,
+  namePart,
+  valuesPart,
+  operatorPart,
+  omitted,
+  Parts,
+  partsOf,
 }
 
 abbrev pub sign : Char → Shape
@@ -115,79 +94,36 @@ countsShapes (count v) = countShape v ∷ []
 countsShapes (range a b) = countShape a ∷ sign "." ∷ countShape b ∷ []
 countsShapes (counts vs) = bracketed (map countShape vs)
 
-abbrev pub transitsShapes : TransitCounts → List Shape
-transitsShapes estimated = wordOf "N" ∷ []
-transitsShapes (counted c) = countsShapes c
-
 abbrev pub operandShapes : Operand → List Shape
 operandShapes everyone = sign "*" ∷ []
 operandShapes (symbol n) = sign "@" ∷ word (n .spelling) ∷ []
 operandShapes (names ns) = bareOne (map nameShape ns)
-
--- an argument that may be left out, and is then not printed
-abbrev pub someModes : Family → Option Modes → List (List Shape)
-someModes f none = []
-someModes f (some ms) = modesShapes f ms ∷ []
-
-abbrev pub someName : Option Name → List (List Shape)
-someName none = []
-someName (some n) = (nameShape n ∷ []) ∷ []
 
 -- "Of the operators only `+` prints"
 abbrev pub operatorShapes : Operator → List (List Shape)
 operatorShapes multiply = []
 operatorShapes add = (sign "+" ∷ []) ∷ []
 
--- Features.
+-- a word or a number of a LET
+abbrev pub itemShape : Item → Shape
+itemShape i = nameShape (i .name)
 
-unfoldable pub keywordFor : Feature → List ℕ
-keywordFor (Absorption ms) = bytes "ABSORPTION"
-keywordFor (Elimination ms) = bytes "ELIMINATION"
-keywordFor (Peripherals c ms) = bytes "PERIPHERALS"
-keywordFor (Transits c ms) = bytes "TRANSITS"
-keywordFor (Lagtime ms) = bytes "LAGTIME"
-keywordFor (Covariate m ps cs es op) = bytes "COVARIATE"
-keywordFor (Allometry n r) = bytes "ALLOMETRY"
-keywordFor (DirectEffect ms) = bytes "DIRECTEFFECT"
-keywordFor (EffectComp ms) = bytes "EFFECTCOMP"
-keywordFor (IndirectEffect ms ps) = bytes "INDIRECTEFFECT"
-keywordFor (Metabolite ms) = bytes "METABOLITE"
-keywordFor (Iiv m ps es) = bytes "IIV"
-keywordFor (Iov m ps es) = bytes "IOV"
-keywordFor (Covariance m ls ps) = bytes "COVARIANCE"
+-- what a part prints as: one argument, or none where it was left out
+abbrev pub partShapes : Part → List (List Shape)
+partShapes (modesPart f ms) = modesShapes f ms ∷ []
+partShapes (countsPart c) = countsShapes c ∷ []
+partShapes estimatedPart = (wordOf "N" ∷ []) ∷ []
+partShapes (operandPart p) = operandShapes p ∷ []
+partShapes (namePart n) = (nameShape n ∷ []) ∷ []
+partShapes (valuesPart is) = bareOne (map itemShape is) ∷ []
+partShapes (operatorPart op) = operatorShapes op
+partShapes omitted = []
 
-unfoldable pub isOptional : Feature → Bool
-isOptional (Absorption ms) = false
-isOptional (Elimination ms) = false
-isOptional (Peripherals c ms) = false
-isOptional (Transits c ms) = false
-isOptional (Lagtime ms) = false
-isOptional (Covariate m ps cs es op) = m
-isOptional (Allometry n r) = false
-isOptional (DirectEffect ms) = false
-isOptional (EffectComp ms) = false
-isOptional (IndirectEffect ms ps) = false
-isOptional (Metabolite ms) = false
-isOptional (Iiv m ps es) = m
-isOptional (Iov m ps es) = m
-isOptional (Covariance m ls ps) = m
+abbrev pub partsShapes : List Part → List (List Shape)
+partsShapes [] = []
+partsShapes (p ∷ ps) = partShapes p ++ partsShapes ps
 
-unfoldable pub argumentsOf : Feature → List (List Shape)
-argumentsOf (Absorption ms) = modesShapes AbsorptionMode ms ∷ []
-argumentsOf (Elimination ms) = modesShapes EliminationMode ms ∷ []
-argumentsOf (Peripherals c ms) = countsShapes c ∷ someModes PeripheralKind ms
-argumentsOf (Transits c ms) = transitsShapes c ∷ someModes DepotMode ms
-argumentsOf (Lagtime ms) = modesShapes LagtimeMode ms ∷ []
-argumentsOf (Covariate m ps cs es op) =
-    operandShapes ps ∷ operandShapes cs ∷ modesShapes CovariateEffect es ∷ operatorShapes op
-argumentsOf (Allometry n r) = (nameShape n ∷ []) ∷ someName r
-argumentsOf (DirectEffect ms) = modesShapes PdMode ms ∷ []
-argumentsOf (EffectComp ms) = modesShapes PdMode ms ∷ []
-argumentsOf (IndirectEffect ms ps) = modesShapes PdMode ms ∷ modesShapes ProductionMode ps ∷ []
-argumentsOf (Metabolite ms) = modesShapes MetaboliteMode ms ∷ []
-argumentsOf (Iiv m ps es) = operandShapes ps ∷ modesShapes VariabilityEffect es ∷ []
-argumentsOf (Iov m ps es) = operandShapes ps ∷ modesShapes VariabilityEffect es ∷ []
-argumentsOf (Covariance m ls ps) = modesShapes VariabilityLevel ls ∷ operandShapes ps ∷ []
+-- Statements, and a text.
 
 -- a keyword with its `?` and its arguments in their parentheses
 abbrev pub questionMark : Bool → List Shape
@@ -197,15 +133,15 @@ questionMark false = []
 abbrev pub callShapes : List ℕ → Bool → List (List Shape) → List Shape
 callShapes k m args = word k ∷ questionMark m ++ sign "(" ∷ argumentShapes args ++ sign ")" ∷ []
 
--- Statements, and a text.
+-- a keyword as it is printed
+abbrev pub keywordAt : ℕ → List ℕ
+keywordAt k = getD keywords k []
 
--- a word or a number of a LET
-abbrev pub itemShape : Item → Shape
-itemShape i = nameShape (i .name)
+abbrev pub takenShapes : Parts → List Shape
+takenShapes p = callShapes (keywordAt (p .keyword)) (p .optional) (partsShapes (p .arguments))
 
 unfoldable pub statementShapes : Statement → List Shape
-statementShapes (Let n is) = callShapes (bytes "LET") false ((word (n .spelling) ∷ []) ∷ bareOne (map itemShape is) ∷ [])
-statementShapes (feature f) = callShapes (keywordFor f) (isOptional f) (argumentsOf f)
+statementShapes s = takenShapes (partsOf s)
 
 unfoldable pub textShapes : List Statement → List Shape
 textShapes [] = []

@@ -18,7 +18,7 @@ use Rattle.reading.specs.Argument.{single, range, array, countAt, rangeOf, coun
 use Rattle.reading.specs.Feature.{isN}
 use Rattle.reading.specs.Syntax.{name, itemAs}
 use Rattle.reading_laws.specs.WellFormed.{oneTo64, withinLimit, wellRange, wellCounts}
-use Rattle.reading_laws.proofs.Places.{both}
+use Rattle.reading_laws.proofs.Tests.{both}
 use Rattle.canonical.specs.Canonical.{countShape, countsShapes}
 use Rattle.canonical_laws.specs.Printed.{Entry, numberEntry, Again}
 use Rattle.canonical_laws.proofs.Spelling.{digits-number, digits-no-n}

@@ -2,12 +2,12 @@
 -- Assumes nothing.
 use Prim.Native.Nat.{ℕ}
 use mathlib.Core.Path.{_≡_, refl}
-use mathlib.Core.Bool.{Bool, true, false, false≢true, _&&_}
-use mathlib.Core.List.{[], _∷_}
+use mathlib.Core.Bool.{Bool, true, false, false≢true}
+use mathlib.Core.List.{List, [], _∷_}
 use mathlib.Core.Option.{some, none}
 use Rattle.text.specs.Bytes.{bytes}
 use Rattle.tokens.specs.Class.{classOf}
-use Rattle.tokens.specs.Spelling.{isWord}
+use Rattle.tokens.specs.Token.{Shape}
 use Rattle.token_laws.proofs.Tests.{and-left, and-right}
 use Rattle.labels.specs.declared.Family.the-variants.{
   AbsorptionMode,
@@ -27,13 +27,11 @@ use Rattle.labels.specs.Label.{keywords}
 use Rattle.reading.specs.Statement.{
   aWord,
   aNumber,
-  Operand,
   Modes,
   allModes,
   modes,
   estimated,
   counted,
-  Operator,
   multiply,
   add,
   Feature,
@@ -52,140 +50,122 @@ use Rattle.reading.specs.Statement.{
   Iov,
   Covariance,
 }
+use Rattle.reading.specs.Parts.{featureParts}
 use Rattle.reading.specs.Answer.{accepted}
-use Rattle.reading.specs.Argument.{Arg, single, plus, operandOf, modesOf}
+use Rattle.reading.specs.Argument.{Arg, single, plus}
 use Rattle.reading.specs.Feature.{keywordOf, transitsOf, explicit, operatorOf, featureOf, buildFeature}
-use Rattle.reading.specs.Syntax.{itemAs}
-use Rattle.reading_laws.specs.Moved.{moveOperand}
-use Rattle.reading_laws.specs.WellFormed.{spelledAs, wellModes, wellCounts, wellOperand, wellEffects, wellFeature}
-use Rattle.canonical.specs.Canonical.{modesShapes, operandShapes, keywordFor, isOptional, argumentsOf}
+use Rattle.reading.specs.Syntax.{name, itemAs}
+use Rattle.reading_laws.specs.Moved.{moveFeature}
+use Rattle.reading_laws.specs.WellFormed.{spelledAs, wellPart, wellParts, wellEffects, wellTogether, wellFeature}
+use Rattle.reading_laws.proofs.Tests.{Passing, all-passing}
+use Rattle.canonical.specs.Canonical.{wordOf, partsShapes, keywordAt}
 use Rattle.canonical_laws.specs.Forgotten.{nowhere}
-use Rattle.canonical_laws.specs.Printed.{wordEntry, Again, lastly, before, PrintedFeature}
+use Rattle.canonical_laws.specs.Printed.{wordEntry, startsFeature, Again, lastly, before, PrintedCall}
 use Rattle.canonical_laws.proofs.Arguments.{plus-printed, single-printed}
 use Rattle.canonical_laws.proofs.Modes.{modes-again}
 use Rattle.canonical_laws.proofs.Counts.{counts-again}
 use Rattle.canonical_laws.proofs.Names.{operand-again, name-again}
 
--- a keyword is a word, and is not LET
-pub keyword-starts : (f : Feature) → (isWord (keywordFor f) ≡ true) × (sameWord (keywordFor f) (bytes "LET") ≡ false)
-unfolding keywordFor sameWord classOf
-keyword-starts (Absorption ms) = (refl, refl)
-keyword-starts (Elimination ms) = (refl, refl)
-keyword-starts (Peripherals c ms) = (refl, refl)
-keyword-starts (Transits c ms) = (refl, refl)
-keyword-starts (Lagtime ms) = (refl, refl)
-keyword-starts (Covariate m ps cs es op) = (refl, refl)
-keyword-starts (Allometry n r) = (refl, refl)
-keyword-starts (DirectEffect ms) = (refl, refl)
-keyword-starts (EffectComp ms) = (refl, refl)
-keyword-starts (IndirectEffect ms ps) = (refl, refl)
-keyword-starts (Metabolite ms) = (refl, refl)
-keyword-starts (Iiv m ps es) = (refl, refl)
-keyword-starts (Iov m ps es) = (refl, refl)
-keyword-starts (Covariance m ls ps) = (refl, refl)
+module _ {limit : ℕ} {k : List ℕ} {m : Bool} {f : Feature} where
+  -- a call of one argument, and of two
+  one-again :
+      {xs : List Shape} {P : Arg → Type 0}
+      → startsFeature k ≡ true
+      → Again limit xs P
+      → ((a : Arg) → P a → buildFeature limit (name 0 k) m (a ∷ []) ≡ accepted f)
+      → PrintedCall limit k m (xs ∷ []) f
+  one-again s a h = record { starts = s; arguments = a .arg ∷ []; printed = lastly (a .printed); means = h (a .arg) (a .fact) }
+
+  two-again :
+      {xs ys : List Shape} {P Q : Arg → Type 0}
+      → startsFeature k ≡ true
+      → Again limit xs P
+      → Again limit ys Q
+      → ((a b : Arg) → P a → Q b → buildFeature limit (name 0 k) m (a ∷ b ∷ []) ≡ accepted f)
+      → PrintedCall limit k m (xs ∷ ys ∷ []) f
+  two-again s a b h =
+      record {
+        starts = s;
+        arguments = a .arg ∷ b .arg ∷ [];
+        printed = before (a .printed) (lastly (b .printed));
+        means = h (a .arg) (b .arg) (a .fact) (b .fact);
+      }
+
+-- the N of TRANSITS
+n-again : {limit : ℕ} → Again limit (wordOf "N" ∷ []) (λ a. a ≡ single (itemAs aWord 0 (bytes "N")))
+unfolding classOf
+n-again = record { arg = single (itemAs aWord 0 (bytes "N")); printed = single-printed (wordEntry refl); fact = refl }
 
 -- the effects of a COVARIATE, which are `*` only after a `?`
-effects-well : (m : Bool) (es : Modes) → wellEffects m es ≡ true → wellModes CovariateEffect es ≡ true
-effects-well m allModes e = refl
-effects-well m (modes ms) e = e
-
 effects-stand : (m : Bool) (es : Modes) (a : Arg) → wellEffects m es ≡ true → explicit m a es ≡ accepted es
 unfolding explicit
 effects-stand true es a e = refl
 effects-stand false allModes a e = absurd (false≢true e)
 effects-stand false (modes ms) a e = refl
 
--- the three arguments of a COVARIATE that always stand, with a fourth or none
-covariate-again :
-    {limit : ℕ} (m : Bool) (ps cs : Operand) (es : Modes) (op : Operator)
-    → wellEffects m es ≡ true
-    → Again limit (operandShapes ps) (λ x. operandOf x ≡ accepted (moveOperand nowhere ps))
-    → Again limit (operandShapes cs) (λ x. operandOf x ≡ accepted (moveOperand nowhere cs))
-    → Again limit (modesShapes CovariateEffect es) (λ x. modesOf CovariateEffect x ≡ accepted es)
-    → PrintedFeature limit (Covariate m ps cs es op)
-unfolding buildFeature keywordOf find sameWord keywords featureOf keywordFor isOptional argumentsOf operatorOf
-covariate-again m ps cs es multiply e a b c =
+-- well formed parts that stand together are printed so that they are read again as the feature
+parts-again :
+    (limit : ℕ) (f : Feature)
+    → Passing (wellPart limit) (featureParts f .arguments)
+    → wellTogether f ≡ true
+    → PrintedCall limit (keywordAt (featureParts f .keyword)) (featureParts f .optional) (partsShapes (featureParts f .arguments))
+    (moveFeature nowhere f)
+unfolding buildFeature keywordOf find sameWord keywords featureOf featureParts transitsOf classOf operatorOf
+parts-again limit (Absorption ms) w e = one-again refl (modes-again limit AbsorptionMode ms (w .0)) λ a h. simp h
+parts-again limit (Elimination ms) w e = one-again refl (modes-again limit EliminationMode ms (w .0)) λ a h. simp h
+parts-again limit (Peripherals c none) w e = one-again refl (counts-again limit c (w .0)) λ a h. simp (h .1)
+parts-again limit (Peripherals c (some ms)) w e =
+    two-again refl (counts-again limit c (w .0)) (modes-again limit PeripheralKind ms (w .1 .0)) λ a b h g. simp (h .1, g)
+parts-again limit (Transits estimated none) w e = one-again refl n-again λ a h. simp h
+parts-again limit (Transits estimated (some ms)) w e = absurd (false≢true e)
+parts-again limit (Transits (counted c) none) w e = one-again refl (counts-again limit c (w .0)) λ a h. simp (h .0, h .1)
+parts-again limit (Transits (counted c) (some ms)) w e =
+    two-again refl (counts-again limit c (w .0)) (modes-again limit DepotMode ms (w .1 .0)) λ a b h g. simp (h .0, h .1, g)
+parts-again limit (Lagtime ms) w e = one-again refl (modes-again limit LagtimeMode ms (w .0)) λ a h. simp h
+parts-again limit (Covariate m ps cs es multiply) w e =
+    let a = operand-again limit ps (w .0) in
+    let b = operand-again limit cs (w .1 .0) in
+    let c = modes-again limit CovariateEffect es (w .1 .1 .0) in
     record {
+      starts = refl;
       arguments = a .arg ∷ b .arg ∷ c .arg ∷ [];
       printed = before (a .printed) (before (b .printed) (lastly (c .printed)));
       means = simp (a .fact, b .fact, c .fact, effects-stand m es (c .arg) e);
     }
-covariate-again m ps cs es add e a b c =
+parts-again limit (Covariate m ps cs es add) w e =
+    let a = operand-again limit ps (w .0) in
+    let b = operand-again limit cs (w .1 .0) in
+    let c = modes-again limit CovariateEffect es (w .1 .1 .0) in
     record {
+      starts = refl;
       arguments = a .arg ∷ b .arg ∷ c .arg ∷ plus 0 ∷ [];
       printed = before (a .printed) (before (b .printed) (before (c .printed) (lastly plus-printed)));
       means = simp (a .fact, b .fact, c .fact, effects-stand m es (c .arg) e);
     }
+parts-again limit (Allometry n none) w e =
+    one-again refl (name-again limit aWord n (and-left (spelledAs aWord n) true e)) λ a h. simp h
+parts-again limit (Allometry n (some r)) w e =
+    two-again refl (name-again limit aWord n (and-left (spelledAs aWord n) (spelledAs aNumber r) e))
+    (name-again limit aNumber r (and-right (spelledAs aWord n) (spelledAs aNumber r) e)) λ a b h g. simp (h, g)
+parts-again limit (DirectEffect ms) w e = one-again refl (modes-again limit PdMode ms (w .0)) λ a h. simp h
+parts-again limit (EffectComp ms) w e = one-again refl (modes-again limit PdMode ms (w .0)) λ a h. simp h
+parts-again limit (IndirectEffect ms ps) w e =
+    two-again refl (modes-again limit PdMode ms (w .0)) (modes-again limit ProductionMode ps (w .1 .0)) λ a b h g. simp (h, g)
+parts-again limit (Metabolite ms) w e = one-again refl (modes-again limit MetaboliteMode ms (w .0)) λ a h. simp h
+parts-again limit (Iiv m ps es) w e =
+    two-again refl (operand-again limit ps (w .0)) (modes-again limit VariabilityEffect es (w .1 .0)) λ a b h g. simp (h, g)
+parts-again limit (Iov m ps es) w e =
+    two-again refl (operand-again limit ps (w .0)) (modes-again limit VariabilityEffect es (w .1 .0)) λ a b h g. simp (h, g)
+parts-again limit (Covariance m ls ps) w e =
+    two-again refl (modes-again limit VariabilityLevel ls (w .0)) (operand-again limit ps (w .1 .0)) λ a b h g. simp (h, g)
 
--- A feature is printed so that it is read again as itself.
-pub feature-again : (limit : ℕ) (f : Feature) → wellFeature limit f ≡ true → PrintedFeature limit f
-unfolding buildFeature keywordOf find sameWord keywords featureOf keywordFor isOptional argumentsOf transitsOf classOf
-feature-again limit (Absorption ms) e =
-    let a = modes-again limit AbsorptionMode ms e in
-    record { arguments = a .arg ∷ []; printed = lastly (a .printed); means = simp (a .fact) }
-feature-again limit (Elimination ms) e =
-    let a = modes-again limit EliminationMode ms e in
-    record { arguments = a .arg ∷ []; printed = lastly (a .printed); means = simp (a .fact) }
-feature-again limit (Peripherals c none) e =
-    let a = counts-again limit c (and-left (wellCounts limit c) true e) in
-    record { arguments = a .arg ∷ []; printed = lastly (a .printed); means = simp (a .fact .1) }
-feature-again limit (Peripherals c (some ms)) e =
-    let a = counts-again limit c (and-left (wellCounts limit c) (wellModes PeripheralKind ms) e) in
-    let b = modes-again limit PeripheralKind ms (and-right (wellCounts limit c) (wellModes PeripheralKind ms) e) in
-    record { arguments = a .arg ∷ b .arg ∷ []; printed = before (a .printed) (lastly (b .printed)); means = simp (a .fact .1, b .fact) }
-feature-again limit (Transits estimated none) e =
-    record { arguments = single (itemAs aWord 0 (bytes "N")) ∷ []; printed = lastly (single-printed (wordEntry refl)); means = refl }
-feature-again limit (Transits estimated (some ms)) e = absurd (false≢true e)
-feature-again limit (Transits (counted c) none) e =
-    let a = counts-again limit c (and-left (wellCounts limit c) true e) in
-    record { arguments = a .arg ∷ []; printed = lastly (a .printed); means = simp (a .fact .0, a .fact .1) }
-feature-again limit (Transits (counted c) (some ms)) e =
-    let a = counts-again limit c (and-left (wellCounts limit c) (wellModes DepotMode ms) e) in
-    let b = modes-again limit DepotMode ms (and-right (wellCounts limit c) (wellModes DepotMode ms) e) in
-    record {
-      arguments = a .arg ∷ b .arg ∷ [];
-      printed = before (a .printed) (lastly (b .printed));
-      means = simp (a .fact .0, a .fact .1, b .fact);
-    }
-feature-again limit (Lagtime ms) e =
-    let a = modes-again limit LagtimeMode ms e in
-    record { arguments = a .arg ∷ []; printed = lastly (a .printed); means = simp (a .fact) }
-feature-again limit (Covariate m ps cs es op) e =
-    let operands = and-left (wellOperand ps && wellOperand cs) (wellEffects m es) e in
-    let effects = and-right (wellOperand ps && wellOperand cs) (wellEffects m es) e in
-    covariate-again m ps cs es op effects
-    (operand-again limit ps (and-left (wellOperand ps) (wellOperand cs) operands))
-    (operand-again limit cs (and-right (wellOperand ps) (wellOperand cs) operands))
-    (modes-again limit CovariateEffect es (effects-well m es effects))
-feature-again limit (Allometry n none) e =
-    let a = name-again limit aWord n (and-left (spelledAs aWord n) true e) in
-    record { arguments = a .arg ∷ []; printed = lastly (a .printed); means = simp (a .fact) }
-feature-again limit (Allometry n (some r)) e =
-    let a = name-again limit aWord n (and-left (spelledAs aWord n) (spelledAs aNumber r) e) in
-    let b = name-again limit aNumber r (and-right (spelledAs aWord n) (spelledAs aNumber r) e) in
-    record { arguments = a .arg ∷ b .arg ∷ []; printed = before (a .printed) (lastly (b .printed)); means = simp (a .fact, b .fact) }
-feature-again limit (DirectEffect ms) e =
-    let a = modes-again limit PdMode ms e in
-    record { arguments = a .arg ∷ []; printed = lastly (a .printed); means = simp (a .fact) }
-feature-again limit (EffectComp ms) e =
-    let a = modes-again limit PdMode ms e in
-    record { arguments = a .arg ∷ []; printed = lastly (a .printed); means = simp (a .fact) }
-feature-again limit (IndirectEffect ms ps) e =
-    let a = modes-again limit PdMode ms (and-left (wellModes PdMode ms) (wellModes ProductionMode ps) e) in
-    let b = modes-again limit ProductionMode ps (and-right (wellModes PdMode ms) (wellModes ProductionMode ps) e) in
-    record { arguments = a .arg ∷ b .arg ∷ []; printed = before (a .printed) (lastly (b .printed)); means = simp (a .fact, b .fact) }
-feature-again limit (Metabolite ms) e =
-    let a = modes-again limit MetaboliteMode ms e in
-    record { arguments = a .arg ∷ []; printed = lastly (a .printed); means = simp (a .fact) }
-feature-again limit (Iiv m ps es) e =
-    let a = operand-again limit ps (and-left (wellOperand ps) (wellModes VariabilityEffect es) e) in
-    let b = modes-again limit VariabilityEffect es (and-right (wellOperand ps) (wellModes VariabilityEffect es) e) in
-    record { arguments = a .arg ∷ b .arg ∷ []; printed = before (a .printed) (lastly (b .printed)); means = simp (a .fact, b .fact) }
-feature-again limit (Iov m ps es) e =
-    let a = operand-again limit ps (and-left (wellOperand ps) (wellModes VariabilityEffect es) e) in
-    let b = modes-again limit VariabilityEffect es (and-right (wellOperand ps) (wellModes VariabilityEffect es) e) in
-    record { arguments = a .arg ∷ b .arg ∷ []; printed = before (a .printed) (lastly (b .printed)); means = simp (a .fact, b .fact) }
-feature-again limit (Covariance m ls ps) e =
-    let a = modes-again limit VariabilityLevel ls (and-left (wellModes VariabilityLevel ls) (wellOperand ps) e) in
-    let b = operand-again limit ps (and-right (wellModes VariabilityLevel ls) (wellOperand ps) e) in
-    record { arguments = a .arg ∷ b .arg ∷ []; printed = before (a .printed) (lastly (b .printed)); means = simp (a .fact, b .fact) }
+-- A well formed feature is printed so that it is read again as itself.
+pub feature-again :
+    (limit : ℕ) (f : Feature)
+    → wellFeature limit f ≡ true
+    → PrintedCall limit (keywordAt (featureParts f .keyword)) (featureParts f .optional) (partsShapes (featureParts f .arguments))
+    (moveFeature nowhere f)
+feature-again limit f e =
+    let p = featureParts f in
+    parts-again limit f (all-passing (wellPart limit) (p .arguments) (and-left (wellParts limit p) (wellTogether f) e))
+    (and-right (wellParts limit p) (wellTogether f) e)

@@ -1,9 +1,7 @@
 pub mod ShorterLists
 pub mod ShorterArguments
-pub mod ShorterParts
 pub mod ShorterFeatures
 pub mod ShorterSteps
-pub mod ShorterTokens
 pub mod Shorter
 pub mod Spelling
 pub mod Spelled
@@ -16,3 +14,5 @@ pub mod Features
 pub mod Statements
 pub mod Forgetting
 pub mod Rereading
+pub mod Offsets
+pub mod Numbers

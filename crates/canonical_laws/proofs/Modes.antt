@@ -2,10 +2,10 @@
 -- Assumes nothing.
 use Prim.Native.Nat.{ℕ}
 use mathlib.Core.Path.{_≡_, refl, ap}
-use mathlib.Core.Bool.{true, false, not, false≢true}
+use mathlib.Core.Bool.{true, not, false≢true}
 use mathlib.Core.List.{List, [], _∷_, map}
 use mathlib.Core.Option.{some}
-use borrow.Author.Tests.{ltb-true, not-true}
+use borrow.Author.Tests.{ltb-true}
 use lib.Dec.{eqb}
 use lib.ListN.{length, getD}
 use Rattle.token_laws.specs.Shaped.{all}
@@ -17,9 +17,10 @@ use Rattle.labels.specs.Label.{labelsOf}
 use Rattle.labels.proofs.Distinct.{own-place, labels-distinct}
 use Rattle.reading.specs.Statement.{aWord, Item, Modes, allModes, modes}
 use Rattle.reading.specs.Answer.{accepted}
-use Rattle.reading.specs.Argument.{star, modeList, without, firsts, modesOf}
+use Rattle.reading.specs.Argument.{star, modeList, firsts, modesOf}
 use Rattle.reading.specs.Syntax.{itemAs}
 use Rattle.reading_laws.specs.WellFormed.{oneTo64, isPlace, noneTwice, wellModes}
+use Rattle.reading_laws.proofs.Places.{without-none}
 use Rattle.canonical.specs.Canonical.{labelShape, modesShapes}
 use Rattle.canonical_laws.specs.Printed.{Entry, wordEntry, bareArg, Again}
 use Rattle.canonical_laws.proofs.Arguments.{star-printed}
@@ -43,20 +44,12 @@ module _ (f : Family) where
       simp (label-found m (and-left (isPlace f m) (all (isPlace f) ms) e), labels-mean ms (and-right (isPlace f m) (all (isPlace f) ms) e))
 
 -- modes of which none stands twice all stay
-without-other : (m : ℕ) (ms : List ℕ) → all (λ x. not (eqb m x)) ms ≡ true → without m ms ≡ ms
-without-other m [] e = refl
-without-other m (x ∷ xs) e =
-    simp (
-      not-true (eqb m x) (and-left (not (eqb m x)) (all (λ y. not (eqb m y)) xs) e),
-      without-other m xs (and-right (not (eqb m x)) (all (λ y. not (eqb m y)) xs) e),
-    )
-
 firsts-stay : (ms : List ℕ) → noneTwice ms ≡ true → firsts ms ≡ ms
 unfolding firsts
 firsts-stay [] e = refl
 firsts-stay (m ∷ ms) e =
     simp (firsts-stay ms (and-right (all (λ x. not (eqb m x)) ms) (noneTwice ms) e))
-    (ap (λ (l : List ℕ). m ∷ l) (without-other m ms (and-left (all (λ x. not (eqb m x)) ms) (noneTwice ms) e)))
+    (ap (λ (l : List ℕ). m ∷ l) (without-none m ms (and-left (all (λ x. not (eqb m x)) ms) (noneTwice ms) e)))
 
 modes-mean :
     (f : Family) (ms : List ℕ)

@@ -18,8 +18,8 @@ use Rattle.reading_laws.specs.Moved.{moveRead, moveTokens}
 use Rattle.reading_laws.specs.Reads.{Reads, over, overEnded, passed, passedEnded, begun, carried, completed}
 use Rattle.reading_laws.specs.WellFormed.{wellFormed}
 use Rattle.reading_laws.proofs.Moving.{reading-moved}
-use Rattle.reading_laws.proofs.Accepting.{not-refused, accepted-reads}
-use Rattle.reading_laws.proofs.Joining.{text-accepted, accepted-text}
+use Rattle.reading_laws.proofs.Accepting.{not-refused}
+use Rattle.reading_laws.proofs.Joining.{text-reads, accepted-text}
 use Rattle.canonical.specs.Canonical.{textShapes, canonical}
 use Rattle.canonical.specs.Print.{printed, printText}
 use Rattle.canonical_laws.specs.Forgotten.{nowhere, forget, ReadAs}
@@ -91,5 +91,5 @@ reads-few (completed e r) h = let k = reads-few r (omega arith) in omega arith
 -- An accepted text has at most 256 statements.
 pub few-statements : (limit : ℕ) (text : List ℕ) (ss : List Statement) → readText limit text ≡ accepted ss → length ss ≤ 256
 few-statements limit text ss e =
-    let h = reads-few (accepted-reads limit (length text) 0 between (tokens text) ss (text-accepted limit text ss e)) (omega arith) in
+    let h = reads-few (text-reads limit text ss e) (omega arith) in
     omega arith

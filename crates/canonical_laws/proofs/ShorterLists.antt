@@ -49,7 +49,7 @@ pub spelled-length : (xs : List Shape) → length (spellAll xs) ≡ widths xs
 spelled-length [] = refl
 spelled-length (x ∷ xs) = simp (length-append, spell-length, spelled-length xs)
 
-pub widths-append : (xs ys : List Shape) → widths (xs ++ ys) ≡ widths xs + widths ys
+widths-append : (xs ys : List Shape) → widths (xs ++ ys) ≡ widths xs + widths ys
 widths-append [] ys = omega arith
 widths-append (x ∷ xs) ys = omega (arith, widths-append xs ys)
 
@@ -84,6 +84,10 @@ argument-shapes-width [] = refl
 argument-shapes-width (a ∷ []) = omega arith
 argument-shapes-width (a ∷ b ∷ cs) =
     omega (arith, widths-append a (sign "," ∷ argumentShapes (b ∷ cs)), argument-shapes-width (b ∷ cs))
+
+pub argument-widths-append : (xs ys : List (List Shape)) → argumentWidths (xs ++ ys) ≡ argumentWidths xs + argumentWidths ys
+argument-widths-append [] ys = omega arith
+argument-widths-append (x ∷ xs) ys = omega (arith, argument-widths-append xs ys)
 
 question-mark-width : (m : Bool) → widths (questionMark m) ≡ markWidth m
 question-mark-width true = refl

@@ -3,94 +3,33 @@
 -- Assumes nothing.
 use Prim.Native.Nat.{ℕ, _+_, _≤_}
 use native.Mathlib.Omega.{arith}
-use mathlib.Core.Path.{_≡_, refl, subst}
+use mathlib.Core.Path.{_≡_}
 use mathlib.Core.Bool.{Bool, true, false, cond}
 use mathlib.Core.List.{List, [], _∷_, _++_, map}
-use lib.Dec.{ltb}
 use lib.ListN.{length}
 use Rattle.text.specs.Bytes.{bytes, is}
-use Rattle.tokens.specs.Token.{Shape, word, number, mark, width}
-use Rattle.labels.specs.Word.{sameWord}
-use Rattle.reading.specs.Statement.{Name, Kind, aWord, aNumber, Item, Feature, Statement, Let, feature}
-use Rattle.reading.specs.Answer.{Answer}
-use Rattle.reading.specs.Argument.{Arg, single}
-use Rattle.reading.specs.Syntax.{
-  Call,
-  featureCall,
-  letCall,
-  State,
-  keyword,
-  marked,
-  letKeyword,
-  letOpen,
-  letNamed,
-  argument,
-  atSign,
-  numberRead,
-  rangeOpen,
-  arrayOpen,
-  item,
-  itemRead,
-  argumentRead,
-  Step,
-  more,
-  made,
-  itemAs,
-  name,
-  opened,
-  featureMade,
-  letMade,
-  closed,
-  comma,
-  empty,
-  entered,
-  rangeRead,
-  afterArgument,
-  turn,
-}
-use Rattle.reading_laws.specs.WellFormed.{Gives, given, nothing}
-use Rattle.canonical.specs.Canonical.{bareOne, itemShape, statementShapes}
-use Rattle.canonical_laws.specs.Shorter.{
-  widths,
-  nameWidth,
-  itemWidths,
-  argWidth,
-  argWidths,
-  openWidth,
-  stateWidth,
-  Within,
-  goes,
-  makes,
-  halts,
-}
+use Rattle.tokens.specs.Token.{Shape, mark, width}
+use Rattle.labels.specs.Label.{keywords}
+use Rattle.reading.specs.Statement.{Name, Kind, aWord, aNumber, Item, Statement, Let}
+use Rattle.reading.specs.Parts.{partsOf}
+use Rattle.reading.specs.Argument.{Arg}
+use Rattle.reading.specs.Syntax.{State, Step, more, made, itemAs, name, opened, turn}
+use Rattle.reading_laws.specs.Turned.{goes, makes, halts, Opened, Turned}
+use Rattle.reading_laws.specs.Turned as case
+use Rattle.reading_laws.proofs.Giving.{value-given}
+use Rattle.reading_laws.proofs.Turning.{opening, turning}
+use Rattle.canonical.specs.Canonical.{nameShape, bareOne, itemShape, statementShapes}
+use Rattle.canonical_laws.specs.Shorter.{widths, nameWidth, itemWidths, argWidth, argWidths, stateWidth, Within}
 use Rattle.canonical_laws.proofs.ShorterLists.{name-shape-width, call-shapes-width}
-use Rattle.canonical_laws.proofs.ShorterArguments.{same-length, items-shorter, range-shorter}
+use Rattle.canonical_laws.proofs.ShorterArguments.{same-length, range-shorter, part-shorter}
 use Rattle.canonical_laws.proofs.ShorterFeatures.{build-shorter}
 
--- what a step is known for
-pub within-more : {n : ℕ} {x : Step} {s : State} → Within n x → x ≡ more s → stateWidth s ≤ n
-within-more {n} {s} (goes {s = t} h) e = let z : t ≡ s = cc in subst (λ (y : State). stateWidth y ≤ n) z h
-within-more (makes h) e = let z : _≡_ {A = ℕ} 0 1 = cc in absurd (omega arith)
-within-more halts e = let z : _≡_ {A = ℕ} 0 1 = cc in absurd (omega arith)
-
-pub within-made : {n : ℕ} {x : Step} {s : Statement} → Within n x → x ≡ made s → widths (statementShapes s) ≤ n
-within-made (goes h) e = let z : _≡_ {A = ℕ} 0 1 = cc in absurd (omega arith)
-within-made {n} {s} (makes {x = t} h) e = let z : t ≡ s = cc in subst (λ (y : Statement). widths (statementShapes y) ≤ n) z h
-within-made halts e = let z : _≡_ {A = ℕ} 0 1 = cc in absurd (omega arith)
-
--- a step that goes on, of a state that the step tells
+-- a step to a state and one to a statement, where the step tells them
 on : {n : ℕ} {s : State} → stateWidth s ≤ n → Within n (more s)
 on h = goes h
 
-pub within-most : {m n : ℕ} {x : Step} → Within m x → m ≤ n → Within n x
-within-most (goes {s} h) l = goes {s = s} (omega arith)
-within-most (makes {x = y} h) l = makes {x = y} (omega arith)
-within-most halts l = halts
-
--- one step or another, by a test
-within-either : {n : ℕ} (t : Bool) {x y : Step} → Within n x → Within n y → Within n (cond t x y)
-within-either true h g = h
-within-either false h g = g
+done : {n : ℕ} {x : Statement} → widths (statementShapes x) ≤ n → Within n (made x)
+done h = makes h
 
 -- a mark has a byte
 pub mark-width : (m : ℕ) → 1 ≤ width (mark m)
@@ -111,132 +50,55 @@ args-more : (args : List Arg) (a : Arg) → argWidths (args ++ a ∷ []) ≡ arg
 args-more [] a = omega arith
 args-more (b ∷ bs) a = omega (arith, args-more bs a)
 
+-- a LET
+let-width :
+    (n : Name) (items : List Item)
+    → widths (statementShapes (Let n items)) ≡ 5 + nameWidth n + widths (bareOne (map itemShape items)) + 1
+unfolding statementShapes partsOf keywords
+let-width n items =
+    let args = (nameShape n ∷ []) ∷ bareOne (map itemShape items) ∷ [] in
+    omega (arith, name-shape-width n, call-shapes-width (bytes "LET") false args (omega arith))
+
+opened-as-within : {o : ℕ} {x : Shape} {y : Step} → Opened o x y → Within (width x) y
+opened-as-within case.noStatement = halts
+opened-as-within case.aKeyword = on (omega arith)
+opened-as-within (case.aLetKeyword {w} e) = on (omega (arith, same-length w (bytes "LET") e))
+
+turned-within : {limit : ℕ} {s : State} {o : ℕ} {x : Shape} {y : Step} → Turned limit s o x y → Within (stateWidth s + width x) y
+turned-within case.refusing = halts
+turned-within (case.questioned {m}) = on (omega (arith, mark-width m))
+turned-within (case.called {m}) = on (omega (arith, mark-width m))
+turned-within (case.calledMarked {m}) = on (omega (arith, mark-width m))
+turned-within (case.calledLet {m}) = on (omega (arith, mark-width m))
+turned-within case.named = on (omega arith)
+turned-within (case.valued {m}) = on (omega (arith, mark-width m))
+turned-within case.aWordAlone = on (omega arith)
+turned-within case.aNumberFirst = on (omega arith)
+turned-within (case.aStar {m}) = on (omega (arith, mark-width m))
+turned-within (case.aPlus {m}) = on (omega (arith, mark-width m))
+turned-within (case.anAt {m}) = on (omega (arith, mark-width m))
+turned-within (case.aBracket {m}) = on (omega (arith, mark-width m))
+turned-within {limit} (case.noArgument {k} {q} {m} e) = done (omega (arith, value-given (build-shorter limit k q []) e))
+turned-within case.aSymbol = on (omega arith)
+turned-within (case.aNumberAlone t) = turned-within t
+turned-within (case.points {m} e) = on (simp e (omega arith))
+turned-within (case.aRange t) = on (omega (arith, range-shorter t))
+turned-within (case.firstWord {o} {w}) = on (omega (arith, name-shape-width (name o w)))
+turned-within (case.firstNumber {o} {w}) = on (omega (arith, name-shape-width (name o w)))
+turned-within (case.emptyArray {m}) = on (omega (arith, mark-width m))
+turned-within (case.nextWord {o} {items} {w} few) = on (omega (arith, items-more items aWord o w))
+turned-within (case.nextNumber {o} {items} {w} few) = on (omega (arith, items-more items aNumber o w))
+turned-within (case.itemComma {m}) = on (omega (arith, mark-width m))
+turned-within (case.anArray {m}) = on (omega (arith, mark-width m))
+turned-within (case.argumentComma {args} {a} {m}) = on (omega (arith, args-more args a, mark-width m))
+turned-within {limit} (case.aFeature {k} {q} {args} {a} {m} e) =
+    done (omega (arith, value-given (build-shorter limit k q (args ++ a ∷ [])) e, args-more args a, mark-width m))
+turned-within (case.aLet {n} {m} {items} t) = done (omega (arith, let-width n items, part-shorter t .1, mark-width m))
+
 -- A statement's first token is no shorter than what it makes.
 pub opened-within : (o : ℕ) (x : Shape) → Within (width x) (opened o x)
-unfolding opened
-opened-within o (word w) = go (sameWord w (bytes "LET")) refl
-  where
-    go : (t : Bool) → sameWord w (bytes "LET") ≡ t → Within (length w) (cond t (more letKeyword) (more (keyword (name o w))))
-    go true e = on (omega (arith, same-length w (bytes "LET") e))
-    go false e = on (omega arith)
-opened-within o (number w) = halts
-opened-within o (mark m) = halts
-
--- a feature, a LET and a range that are made of an answer
-feature-made-within : {n : ℕ} {r : Answer Feature} → Gives (λ f. widths (statementShapes (feature f)) ≤ n) r → Within n (featureMade r)
-unfolding featureMade
-feature-made-within (given h) = makes h
-feature-made-within nothing = halts
-
-let-made-within :
-    {k : ℕ} (n : Name) {r : Answer (List Item)}
-    → Gives (λ items. widths (bareOne (map itemShape items)) ≤ k) r
-    → Within (5 + nameWidth n + k + 1) (letMade n r)
-unfolding letMade statementShapes
-let-made-within n (given {a = items} h) =
-    let args = (word (n .spelling) ∷ []) ∷ bareOne (map itemShape items) ∷ [] in
-    makes {x = Let n items} (omega (arith, h, call-shapes-width (bytes "LET") false args (omega arith)))
-let-made-within n nothing = halts
-
-range-read-within : {n : ℕ} (c : Call) {r : Answer Arg} → Gives (λ a. argWidth a ≤ n) r → Within (openWidth c + n) (rangeRead c r)
-range-read-within c (given h) = on (omega (arith, h))
-range-read-within c nothing = halts
-
--- the `)` and the `,` after an argument, and the `)` where the first would start
-closed-within : (limit : ℕ) (c : Call) (a : Arg) → Within (openWidth c + argWidth a + 1) (closed limit c a)
-unfolding closed
-closed-within limit (featureCall k m args) a =
-    within-most (feature-made-within (build-shorter limit k m (args ++ a ∷ []))) (omega (arith, args-more args a))
-closed-within limit (letCall n) a = let-made-within n (items-shorter a)
-
-comma-within : (o : ℕ) (c : Call) (a : Arg) → Within (openWidth c + argWidth a + 1) (comma o c a)
-comma-within o (featureCall k m args) a = on (omega (arith, args-more args a))
-comma-within o (letCall n) a = halts
-
-empty-within : (limit o : ℕ) (c : Call) → Within (openWidth c) (empty limit o c)
-empty-within limit o (featureCall k m []) = feature-made-within (build-shorter limit k m [])
-empty-within limit o (featureCall k m (a ∷ rest)) = halts
-empty-within limit o (letCall n) = halts
-
--- one more item of an array
-entered-within :
-    (c : Call) (p : ℕ) (items : List Item) (k : Kind) (o : ℕ) (w : List ℕ)
-    → Within (openWidth c + 1 + itemWidths items + length w) (entered c p items k o w)
-entered-within c p items k o w =
-    within-either (ltb (length items) 64) (on (omega (arith, items-more items k o w))) halts
-
--- a mark after an argument
-after-argument-within :
-    (limit o m : ℕ) (c : Call) (a : Arg) → Within (openWidth c + argWidth a + width (mark m)) (afterArgument limit o m c a)
-after-argument-within limit o m c a =
-    within-either (is "," m) (within-most (comma-within o c a) (omega (arith, mark-width m)))
-    (within-either (is ")" m) (within-most (closed-within limit c a) (omega (arith, mark-width m))) halts)
-
--- a mark after a number, which may be `..`
-after-number-within :
-    (limit o m : ℕ) (c : Call) (n : Name) → Within (openWidth c + nameWidth n + width (mark m)) (turn limit (numberRead c n) o (mark m))
-unfolding turn
-after-number-within limit o m c n = go (is "." m) (after-argument-within limit o m c (single (record { kind = aNumber; name = n })))
-  where
-    go :
-        (t : Bool)
-        → Within (openWidth c + nameWidth n + cond t 2 1) (afterArgument limit o m c (single (record { kind = aNumber; name = n })))
-        → Within (openWidth c + nameWidth n + cond t 2 1)
-        (cond t (more (rangeOpen c n)) (afterArgument limit o m c (single (record { kind = aNumber; name = n }))))
-    go true h = on (omega arith)
-    go false h = h
+opened-within o x = opened-as-within (opening o x)
 
 -- What a token makes of what was read is no longer than both.
 pub turn-within : (limit : ℕ) (s : State) (o : ℕ) (x : Shape) → Within (stateWidth s + width x) (turn limit s o x)
-unfolding turn
-turn-within limit (keyword k) o (word w) = halts
-turn-within limit (keyword k) o (number w) = halts
-turn-within limit (keyword k) o (mark m) =
-    let h = mark-width m in
-    within-either (is "?" m) (on (omega arith)) (within-either (is "(" m) (on (omega arith)) halts)
-turn-within limit (marked k) o (word w) = halts
-turn-within limit (marked k) o (number w) = halts
-turn-within limit (marked k) o (mark m) = within-either (is "(" m) (on (omega (arith, mark-width m))) halts
-turn-within limit letKeyword o (word w) = halts
-turn-within limit letKeyword o (number w) = halts
-turn-within limit letKeyword o (mark m) = within-either (is "(" m) (on (omega (arith, mark-width m))) halts
-turn-within limit letOpen o (word w) = on (omega arith)
-turn-within limit letOpen o (number w) = halts
-turn-within limit letOpen o (mark m) = halts
-turn-within limit (letNamed n) o (word w) = halts
-turn-within limit (letNamed n) o (number w) = halts
-turn-within limit (letNamed n) o (mark m) = within-either (is "," m) (on (omega (arith, mark-width m))) halts
-turn-within limit (argument c) o (word w) = on (omega arith)
-turn-within limit (argument c) o (number w) = on (omega arith)
-turn-within limit (argument c) o (mark m) =
-    let h = mark-width m in
-    within-either (is "*" m) (on (omega arith))
-    (within-either (is "+" m) (on (omega arith))
-    (within-either (is "@" m) (on (omega arith))
-    (within-either (is "[" m) (on (omega arith))
-    (within-either (is ")" m) (within-most (empty-within limit o c) (omega arith))
-    halts))))
-turn-within limit (atSign c p) o (word w) = on (omega arith)
-turn-within limit (atSign c p) o (number w) = halts
-turn-within limit (atSign c p) o (mark m) = halts
-turn-within limit (numberRead c n) o (word w) = halts
-turn-within limit (numberRead c n) o (number w) = halts
-turn-within limit (numberRead c n) o (mark m) = after-number-within limit o m c n
-turn-within limit (rangeOpen c n) o (word w) = halts
-turn-within limit (rangeOpen c n) o (number w) =
-    within-most (range-read-within c (range-shorter limit n (name o w))) (omega arith)
-turn-within limit (rangeOpen c n) o (mark m) = halts
-turn-within limit (arrayOpen c p) o (word w) = within-most (entered-within c p [] aWord o w) (omega arith)
-turn-within limit (arrayOpen c p) o (number w) = within-most (entered-within c p [] aNumber o w) (omega arith)
-turn-within limit (arrayOpen c p) o (mark m) = within-either (is "]" m) (on (omega (arith, mark-width m))) halts
-turn-within limit (item c p items) o (word w) = entered-within c p items aWord o w
-turn-within limit (item c p items) o (number w) = entered-within c p items aNumber o w
-turn-within limit (item c p items) o (mark m) = halts
-turn-within limit (itemRead c p items) o (word w) = halts
-turn-within limit (itemRead c p items) o (number w) = halts
-turn-within limit (itemRead c p items) o (mark m) =
-    let h = mark-width m in
-    within-either (is "," m) (on (omega arith)) (within-either (is "]" m) (on (omega arith)) halts)
-turn-within limit (argumentRead c a) o (word w) = halts
-turn-within limit (argumentRead c a) o (number w) = halts
-turn-within limit (argumentRead c a) o (mark m) = after-argument-within limit o m c a
+turn-within limit s o x = turned-within (turning limit s o x)

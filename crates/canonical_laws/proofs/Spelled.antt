@@ -11,7 +11,7 @@ use Rattle.token_laws.specs.Shaped.{all}
 use Rattle.token_laws.proofs.Tests.{and-left, and-right}
 use Rattle.reading.specs.Statement.{Item}
 use Rattle.reading.specs.Argument.{Arg}
-use Rattle.reading_laws.proofs.Places.{both}
+use Rattle.reading_laws.proofs.Tests.{both}
 use Rattle.canonical.specs.Canonical.{sign, entryShapes, argumentShapes, bracketed}
 use Rattle.canonical_laws.specs.Printed.{
   Entry,
@@ -63,7 +63,7 @@ sign-spelled {xs} {ys} c p e q =
     }
 
 -- The entries of a list, in brackets too, and the arguments of a call.
-pub entry-spelled : {x : Shape} {i : Item} → Entry x i → Spelled (x ∷ [])
+entry-spelled : {x : Shape} {i : Item} → Entry x i → Spelled (x ∷ [])
 entry-spelled (wordEntry e) = one-spelled e
 entry-spelled (numberEntry e) = one-spelled e
 

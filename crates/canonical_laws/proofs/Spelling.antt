@@ -49,7 +49,7 @@ digits-run (d ∷ ds) h =
     simp (digit-class d (and-left (isDigit d) (every isDigit ds) h), digits-run ds (and-right (isDigit d) (every isDigit ds) h))
 
 -- Digits alone are one number.
-pub whole-number : (ds : List ℕ) → whole ds ≡ true → isNumber ds ≡ true
+whole-number : (ds : List ℕ) → whole ds ≡ true → isNumber ds ≡ true
 unfolding numberRest fraction
 whole-number [] h = absurd (false≢true h)
 whole-number (d ∷ ds) h =

@@ -5,16 +5,19 @@ use native.Mathlib.Omega.{arith}
 use mathlib.Core.Path.{_≡_, refl, _∙_, ap, sym}
 use mathlib.Core.Bool.{Bool, true, false}
 use mathlib.Core.List.{List, [], _∷_, _++_, map, append-assoc, append-nil}
-use borrow.Author.Tests.{lt-leb}
+use borrow.Author.Tests.{lt-leb, not-true}
 use lib.ListN.{length}
 use Rattle.text.specs.Bytes.{bytes}
 use Rattle.tokens.specs.Class.{classOf}
 use Rattle.tokens.specs.Token.{Shape, word}
 use Rattle.tokens.specs.Spelling.{isWord}
 use Rattle.token_laws.specs.Shaped.{all}
+use Rattle.token_laws.proofs.Spelled.{word-no-number}
 use Rattle.token_laws.proofs.Tests.{and-left, and-right}
 use Rattle.labels.specs.Word.{sameWord}
-use Rattle.reading.specs.Statement.{Name, Item, Feature, Statement, Let, feature}
+use Rattle.labels.specs.Label.{keywords}
+use Rattle.reading.specs.Statement.{Name, aWord, Item, Feature, Statement, Let, feature}
+use Rattle.reading.specs.Parts.{featureParts, partsOf}
 use Rattle.reading.specs.Answer.{accepted}
 use Rattle.reading.specs.Argument.{Arg}
 use Rattle.reading.specs.Feature.{buildFeature}
@@ -23,22 +26,23 @@ use Rattle.reading.specs.Read.{between, ended, inside, prepend, onward, readFro
 use Rattle.reading_laws.specs.WellFormed.{oneTo64, wellItem, wellFeature, wellFormed}
 use Rattle.canonical.specs.Canonical.{
   sign,
+  nameShape,
   argumentShapes,
   bareOne,
-  keywordFor,
-  isOptional,
-  argumentsOf,
+  itemShape,
+  partsShapes,
   questionMark,
   callShapes,
-  itemShape,
+  keywordAt,
+  takenShapes,
   statementShapes,
   textShapes,
 }
 use Rattle.canonical_laws.specs.Forgotten.{forget, flat}
 use Rattle.canonical_laws.specs.Printed.{Spelled, PrintedAll, lastly, before}
 use Rattle.canonical_laws.proofs.Spelled.{none-spelled, one-spelled, sign-spelled, arguments-spelled}
-use Rattle.canonical_laws.proofs.Names.{items-again}
-use Rattle.canonical_laws.proofs.Features.{keyword-starts, feature-again}
+use Rattle.canonical_laws.proofs.Names.{name-again, items-again}
+use Rattle.canonical_laws.proofs.Features.{feature-again}
 
 -- a call: its keyword, its `?`, and its arguments in parentheses
 question-spelled : {k : List ℕ} (m : Bool) → isWord k ≡ true → Spelled (word k ∷ questionMark m)
@@ -54,13 +58,15 @@ call-spelled m e p = sign-spelled ")" (sign-spelled "(" (question-spelled m e) r
 
 -- A well formed statement's tokens are spelled so that they are found again.
 pub statement-spelled : (limit : ℕ) (s : Statement) → wellFormed limit s ≡ true → Spelled (statementShapes s)
-unfolding statementShapes classOf
+unfolding statementShapes partsOf keywords classOf
 statement-spelled limit (Let n is) e =
     call-spelled false refl
-    (sign-spelled "," (one-spelled (and-left (isWord (n .spelling)) (oneTo64 wellItem is) e)) refl
+    (sign-spelled "," (name-again limit aWord n (and-left (isWord (n .spelling)) (oneTo64 wellItem is) e) .printed .spelled) refl
     (items-again limit is (and-right (isWord (n .spelling)) (oneTo64 wellItem is) e) .printed .spelled))
 statement-spelled limit (feature f) e =
-    call-spelled (isOptional f) (keyword-starts f .0) (arguments-spelled (feature-again limit f e .printed))
+    let p = feature-again limit f e in
+    call-spelled (featureParts f .optional) (and-left (isWord (keywordAt (featureParts f .keyword))) _ (p .starts))
+    (arguments-spelled (p .printed))
 
 -- So are those of a text.
 pub text-spelled : (limit : ℕ) (ss : List Statement) → all (wellFormed limit) ss ≡ true → Spelled (textShapes ss)
@@ -110,39 +116,46 @@ feature-read :
     (limit n : ℕ) (f : Feature) (rest : List Shape)
     → wellFeature limit f ≡ true
     → n < 256
-    → readFrom limit 0 n between (flat (callShapes (keywordFor f) (isOptional f) (argumentsOf f) ++ rest))
+    → readFrom limit 0 n between (flat (takenShapes (featureParts f) ++ rest))
     ≡ prepend (forget (feature f)) (readFrom limit 0 (suc n) ended (flat rest))
 unfolding featureMade
 feature-read limit n f rest e h =
     let p = feature-again limit f e in
-    ap (λ (l : List Shape). readFrom limit 0 n between (flat l)) (call-then (keywordFor f) (isOptional f) (argumentsOf f) rest)
-    ∙ feature-opened limit n (keywordFor f) (isOptional f) (argumentShapes (argumentsOf f) ++ sign ")" ∷ rest) h (keyword-starts f .1)
-    ∙ arguments-read n (name 0 (keywordFor f)) (isOptional f) [] rest (p .printed)
+    let k = keywordAt (featureParts f .keyword) in
+    let m = featureParts f .optional in
+    let args = partsShapes (featureParts f .arguments) in
+    let other = not-true (sameWord k (bytes "LET")) (and-right (isWord k) _ (p .starts)) in
+    ap (λ (l : List Shape). readFrom limit 0 n between (flat l)) (call-then k m args rest)
+    ∙ feature-opened limit n k m (argumentShapes args ++ sign ")" ∷ rest) h other
+    ∙ arguments-read n (name 0 k) m [] rest (p .printed)
     ∙ simp (p .means)
 
 let-read :
     (limit n : ℕ) (x : Name) (is : List Item) (rest : List Shape)
+    → isWord (x .spelling) ≡ true
     → oneTo64 wellItem is ≡ true
     → n < 256
     → readFrom limit 0 n between
-    (flat (callShapes (bytes "LET") false ((word (x .spelling) ∷ []) ∷ bareOne (map itemShape is) ∷ []) ++ rest))
+    (flat (callShapes (bytes "LET") false ((nameShape x ∷ []) ∷ bareOne (map itemShape is) ∷ []) ++ rest))
     ≡ prepend (forget (Let x is)) (readFrom limit 0 (suc n) ended (flat rest))
 unfolding readFrom turn opened closed letMade sameWord
-let-read limit n x is rest e h =
+let-read limit n x is rest w e h =
     let p = items-again limit is e in
     ap (λ (l : List Shape). readFrom limit 0 n between (flat l))
-    (call-then (bytes "LET") false ((word (x .spelling) ∷ []) ∷ bareOne (map itemShape is) ∷ []) rest)
-    ∙ simp (lt-leb 256 n h)
+    (call-then (bytes "LET") false ((nameShape x ∷ []) ∷ bareOne (map itemShape is) ∷ []) rest)
+    ∙ simp (lt-leb 256 n h, word-no-number (x .spelling) w)
     (p .printed .read n (letCall (name 0 (x .spelling))) 41 rest refl ∙ simp (p .fact))
 
 -- A well formed statement is read again from its tokens, and what comes after it is read as what comes after a statement.
-pub statement-read :
+statement-read :
     (limit n : ℕ) (s : Statement) (rest : List Shape)
     → wellFormed limit s ≡ true
     → n < 256
     → readFrom limit 0 n between (flat (statementShapes s ++ rest)) ≡ prepend (forget s) (readFrom limit 0 (suc n) ended (flat rest))
-unfolding statementShapes
-statement-read limit n (Let x is) rest e h = let-read limit n x is rest (and-right (isWord (x .spelling)) (oneTo64 wellItem is) e) h
+unfolding statementShapes partsOf keywords
+statement-read limit n (Let x is) rest e h =
+    let-read limit n x is rest (and-left (isWord (x .spelling)) (oneTo64 wellItem is) e)
+    (and-right (isWord (x .spelling)) (oneTo64 wellItem is) e) h
 statement-read limit n (feature f) rest e h = feature-read limit n f rest e h
 
 -- The tokens of well formed statements are read as these statements, as long as the whole keeps within 256.

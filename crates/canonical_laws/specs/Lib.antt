@@ -1,3 +1,4 @@
 pub mod Shorter
 pub mod Forgotten
 pub mod Printed
+pub mod Offsets

@@ -1,21 +1,20 @@
 -- What it is for printed tokens to be an argument again: they are tokens, none of them runs into the next, and they are read as it.
 use Prim.Native.Nat.{ℕ}
 use mathlib.Core.Path.{_≡_}
-use mathlib.Core.Bool.{true, false}
+use mathlib.Core.Bool.{Bool, true, false, not, _&&_}
 use mathlib.Core.List.{List, [], _∷_, _++_}
-use Rattle.text.specs.Bytes.{is}
+use Rattle.text.specs.Bytes.{bytes, is}
 use Rattle.tokens.specs.Token.{Shape, word, number, mark}
 use Rattle.tokens.specs.Spelling.{isWord, isNumber, isShape, apart}
 use Rattle.token_laws.specs.Shaped.{all}
+use Rattle.labels.specs.Word.{sameWord}
 use Rattle.reading.specs.Statement.{aWord, aNumber, Item, Feature}
 use Rattle.reading.specs.Answer.{accepted}
 use Rattle.reading.specs.Argument.{Arg, single, array}
 use Rattle.reading.specs.Feature.{buildFeature}
 use Rattle.reading.specs.Syntax.{Call, argument, argumentRead, name, itemAs}
 use Rattle.reading.specs.Read.{inside, readFrom}
-use Rattle.reading_laws.specs.Moved.{moveFeature}
-use Rattle.canonical.specs.Canonical.{keywordFor, isOptional, argumentsOf}
-use Rattle.canonical_laws.specs.Forgotten.{nowhere, flat}
+use Rattle.canonical_laws.specs.Forgotten.{flat}
 
 -- a printed entry of a list, which is a word or a number
 pub data Entry : Shape → Item → Type 0 where
@@ -61,8 +60,13 @@ pub data PrintedAll (limit : ℕ) : List (List Shape) → List Arg → Type 0 wh
       → PrintedAll limit (ys ∷ yss) bs
       → PrintedAll limit (xs ∷ ys ∷ yss) (a ∷ bs)
 
--- A feature that is read again from its printed arguments.
-pub record PrintedFeature (limit : ℕ) (f : Feature) : Type 0 where
+-- a word that is not LET
+abbrev pub startsFeature : List ℕ → Bool
+startsFeature k = isWord k && not (sameWord k (bytes "LET"))
+
+-- A call that is read as a feature.
+pub record PrintedCall (limit : ℕ) (k : List ℕ) (m : Bool) (xss : List (List Shape)) (f : Feature) : Type 0 where
+  pub starts : startsFeature k ≡ true
   pub arguments : List Arg
-  pub printed : PrintedAll limit (argumentsOf f) arguments
-  pub means : buildFeature limit (name 0 (keywordFor f)) (isOptional f) arguments ≡ accepted (moveFeature nowhere f)
+  pub printed : PrintedAll limit xss arguments
+  pub means : buildFeature limit (name 0 k) m arguments ≡ accepted f

@@ -3,30 +3,11 @@
 use Prim.Native.Nat.{ℕ, _+_, _-_, _≤_}
 use mathlib.Core.Bool.{Bool, true, false}
 use mathlib.Core.List.{List, [], _∷_, map}
-use mathlib.Core.Option.{Option, some, none}
 use lib.ListN.{length}
-use Rattle.text.specs.Bytes.{bytes}
 use Rattle.tokens.specs.Token.{Shape, width, Tokens, finish, bad, _▸_}
 use Rattle.counts.specs.Decimal.{digitsOf}
-use Rattle.reading.specs.Statement.{Name, Item, Feature, Statement}
+use Rattle.reading.specs.Statement.{Name, Item, Statement}
 use Rattle.reading.specs.Argument.{Arg, star, plus, symbol, single, range, array}
-use Rattle.reading.specs.Feature.{
-  Keyword,
-  ABSORPTION,
-  ELIMINATION,
-  PERIPHERALS,
-  TRANSITS,
-  LAGTIME,
-  COVARIATE,
-  ALLOMETRY,
-  DIRECTEFFECT,
-  EFFECTCOMP,
-  INDIRECTEFFECT,
-  METABOLITE,
-  IIV,
-  IOV,
-  COVARIANCE,
-}
 use Rattle.reading.specs.Syntax.{
   Call,
   featureCall,
@@ -46,12 +27,10 @@ use Rattle.reading.specs.Syntax.{
   itemRead,
   argumentRead,
   Step,
-  more,
-  made,
-  stop,
 }
 use Rattle.reading.specs.Read.{Where, between, ended, inside}
-use Rattle.canonical.specs.Canonical.{keywordFor, isOptional, argumentsOf, itemShape, statementShapes}
+use Rattle.reading_laws.specs.Turned.{Leads}
+use Rattle.canonical.specs.Canonical.{itemShape, statementShapes}
 
 -- Tokens.
 
@@ -84,26 +63,6 @@ markWidth false = 0
 abbrev pub callWidth : ℕ → Bool → ℕ → ℕ
 callWidth k m args = k + markWidth m + 1 + args
 
--- a feature's keyword as it is printed
-abbrev pub labelOf : Keyword → List ℕ
-labelOf ABSORPTION = bytes "ABSORPTION"
-labelOf ELIMINATION = bytes "ELIMINATION"
-labelOf PERIPHERALS = bytes "PERIPHERALS"
-labelOf TRANSITS = bytes "TRANSITS"
-labelOf LAGTIME = bytes "LAGTIME"
-labelOf COVARIATE = bytes "COVARIATE"
-labelOf ALLOMETRY = bytes "ALLOMETRY"
-labelOf DIRECTEFFECT = bytes "DIRECTEFFECT"
-labelOf EFFECTCOMP = bytes "EFFECTCOMP"
-labelOf INDIRECTEFFECT = bytes "INDIRECTEFFECT"
-labelOf METABOLITE = bytes "METABOLITE"
-labelOf IIV = bytes "IIV"
-labelOf IOV = bytes "IOV"
-labelOf COVARIANCE = bytes "COVARIANCE"
-
-unfoldable pub featureWidth : Feature → ℕ
-featureWidth f = callWidth (length (keywordFor f)) (isOptional f) (argumentWidths (argumentsOf f))
-
 -- statements with a `;` before each
 abbrev pub statementWidths : List Statement → ℕ
 statementWidths [] = 0
@@ -135,10 +94,6 @@ abbrev pub argWidths : List Arg → ℕ
 argWidths [] = 0
 argWidths (a ∷ rest) = argWidth a + 1 + argWidths rest
 
-abbrev pub maybeWidth : Option Arg → ℕ
-maybeWidth none = 0
-maybeWidth (some a) = argWidths (a ∷ [])
-
 -- a call up to where an argument may start
 abbrev pub openWidth : Call → ℕ
 openWidth (featureCall k m args) = callWidth (nameWidth k) m (argWidths args)
@@ -165,8 +120,6 @@ whereWidth between = 1
 whereWidth ended = 0
 whereWidth (inside s) = 1 + stateWidth s
 
--- What a token makes of a statement is no longer than so many bytes: so much of it, or the whole of it as it is printed.
-pub data Within (n : ℕ) : Step → Type 0 where
-  goes : {s : State} → stateWidth s ≤ n → Within n (more s)
-  makes : {x : Statement} → widths (statementShapes x) ≤ n → Within n (made x)
-  halts : {k p : ℕ} → Within n (stop k p)
+-- So much of a statement, or the whole of it as it is printed, is no longer than so many bytes.
+abbrev pub Within : ℕ → Step → Type 0
+Within n x = Leads (λ s. stateWidth s ≤ n) (λ s. widths (statementShapes s) ≤ n) x

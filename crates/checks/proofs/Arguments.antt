@@ -27,20 +27,22 @@ use Rattle.forms.specs.Forms.{modesIn}
 use Rattle.forms.specs.Fits.{Stands}
 use Rattle.forms.proofs.Lists.{stands-one}
 use Rattle.checks.specs.Answers.{modesListed}
+use Rattle.packs.proofs.Packed.{no-place, alone}
 use Rattle.checks.proofs.Judging.{found-some, found-none}
+use Rattle.checks.proofs.Modes.{found-small}
 
--- a word alone as a mode: it is looked up, and stands for the list of one entry that starts with it
+-- a word alone as a mode: it is looked up, and stands alone in its number
 module _ (f : Family) (s : List ℕ) (n : forms.Name) where
   abbrev Looked : Found → Type 0
   Looked r = r ≡ foundAs (find (nameIn s n .spelling) (labelsOf f))
 
   pub lone-found :
-      Stands s aWord n
-      → (m : ℕ)
-      → Looked (Place m)
-      → accepted (modesIn s f (formModes.List (record { first = n .offset; count = 1 }))) ≡ loneMode f aWord (nameIn s n)
-  unfolding modesIn firsts
-  lone-found w m e = rw (stands-one w, found-some (find (nameIn s n .spelling) (labelsOf f)) m e)
+      (m : ℕ) → Looked (Place m) → accepted (modesIn (formModes.List (m + 1))) ≡ loneMode f aWord (nameIn s n)
+  unfolding modesIn
+  lone-found m e =
+      let g = found-some (find (nameIn s n .spelling) (labelsOf f)) m e in
+      let h = found-small f (nameIn s n .spelling) m g in
+      rw (g, alone 0 m refl (omega arith) .all, no-place 0 refl)
 
   pub lone-unknown : Looked Nothing → refused 10 (n .offset) ≡ loneMode f aWord (nameIn s n)
   lone-unknown e = rw (found-none (find (nameIn s n .spelling) (labelsOf f)) e)

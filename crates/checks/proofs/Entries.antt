@@ -5,7 +5,6 @@ use mathlib.Core.Bool.{true, false≢true}
 use mathlib.Core.List.{List, [], _∷_}
 use Prim.Native.Nat.{ℕ, zero, suc, _-_, _≤_}
 use native.Mathlib.Omega.{arith}
-use lib.Dec.{eqb}
 use Rattle.labels.proofs.Words.{halves}
 use Rattle.tokens.specs.Token.{Tokens, finish, bad, _▸_}
 use Rattle.tokens.specs.declared.Token as kinds
@@ -16,8 +15,8 @@ use Rattle.forms.specs.declared.Items.{Items}
 use Rattle.forms.specs.Items.{tokensFrom, entries, rest, itemsIn, isEntry, listed}
 use Rattle.forms.specs.Fits.{Listed}
 use Rattle.forms.proofs.Lists.{items-are}
-use Rattle.checks.specs.declared.Item as checked
-use Rattle.checks.specs.Answers.{ItemHere}
+use Rattle.checks.specs.declared.Entry as checked
+use Rattle.checks.specs.Answers.{kindOf, EntryHere}
 
 -- the first entry, and then those behind it and the token after it
 pub entries-more : (n : ℕ) (ts : Tokens) (i : Item) → entries 1 ts ≡ i ∷ [] → entries (suc n) ts ≡ i ∷ entries n (rest (rest ts))
@@ -41,7 +40,7 @@ entries-some (suc n) (bad o) h k e = false≢true h
 entries-some (suc n) (t ▸ ts) h k e = let z : _≡_ {A = ℕ} 0 1 = cc in omega arith
 
 pub listed-some : (s : List ℕ) (is : Items) → Listed s is → (is .count ≡ 0 → ⊥) → itemsIn s is ≡ [] → ⊥
-listed-some s is l k e = entries-some (is .count) (tokensFrom s (is .first)) (l .are) k (sym (items-are s is l) ∙ e)
+listed-some s is l k e = entries-some (is .count) (tokensFrom s (is .first .at)) (l .are) k (sym (items-are s is l) ∙ e)
 
 -- the tokens after the one at an offset start where its answer says
 pub behind : (s : List ℕ) (o : ℕ) (t : kinds.Token) → Known s o t → rest (tokensFrom s o) ≡ tokensFrom s (t .next .at)
@@ -52,16 +51,12 @@ behind s o t (aStray e f g) = ap rest f ∙ sym g
 behind s o t (theEnd e f a b) = ap rest f ∙ sym (at-end s (t .next .at) (omega arith))
 
 -- the token at an offset as an entry of a list
-abbrev pub itemOf : kinds.Token → checked.Item
-itemOf t = record {
-  number = eqb (t .kind) 1;
-  name = record { offset = t .start; length = t .next .at - t .start };
-  end = t .next .at;
-}
+abbrev pub entryOf : kinds.Token → checked.Entry
+entryOf t = record { kind = kindOf (t .kind); name = record { offset = t .start; length = t .next .at - t .start }; next = t .next }
 
 pub record Entry (s : List ℕ) (o : ℕ) (t : kinds.Token) : Type 0 where
   pub ahead : t .start ≤ t .next .at
-  pub here : ItemHere s o (itemOf t)
+  pub here : EntryHere s o (entryOf t)
 
 pub entry-here : (s : List ℕ) (o : ℕ) (t : kinds.Token) → listed 1 (tokensFrom s o) ≡ true → Known s o t → Entry s o t
 unfolding entries listed

@@ -1,3 +1,5 @@
 pub mod Entries
 pub mod Judging
 pub mod Arguments
+pub mod Modes
+pub mod Others

@@ -1,15 +1,18 @@
 -- What the answers of the functions that judge arguments mean, as answers of the definition of reading.
 use Prim.Native.Nat.{ℕ}
-use mathlib.Core.Bool.{Bool, true, false}
+use mathlib.Core.Bool.{Bool, true, false, cond}
 use mathlib.Core.List.{List, [], _∷_}
 use mathlib.Core.Path.{_≡_}
+use lib.Dec.{eqb}
 use Rattle.labels.specs.declared.Family.{Family}
-use Rattle.reading.specs.Statement.{Name, Kind, aWord, aNumber, Item}
+use Rattle.reading.specs.Statement.{Name, Item}
 use Rattle.reading.specs.Statement as statement
 use Rattle.reading.specs.Answer.{Answer, accepted, refused, _>>=_}
 use Rattle.reading.specs.Argument.{firsts, modeList}
 use Rattle.forms.specs.declared.Refusal.{Refusal}
-use Rattle.forms.specs.Items.{tokensFrom, nameIn, entries, rest, itemsIn}
+use Rattle.forms.specs.declared.Kind as kinds
+use Rattle.forms.specs.declared.Kind.the-variants as kind
+use Rattle.forms.specs.Items.{tokensFrom, nameIn, kindAs, entries, rest, itemsIn}
 use Rattle.forms.specs.Fits.{InText}
 use Rattle.forms.specs.Forms.{modesIn, countsIn, operandIn, opAs}
 use Rattle.checks.specs.declared
@@ -36,9 +39,9 @@ unfoldable pub checkedAs : {A : Type 0} → A → Checked → Answer A
 checkedAs a checked.Fine = accepted a
 checkedAs a (checked.Refused r) = refusedBy r
 
-unfoldable pub modesAs : List ℕ → Family → ModesRead → Answer statement.Modes
-modesAs s f (modesRead.Modes m) = accepted (modesIn s f m)
-modesAs s f (modesRead.Refused r) = refusedBy r
+unfoldable pub modesAs : ModesRead → Answer statement.Modes
+modesAs (modesRead.Modes m) = accepted (modesIn m)
+modesAs (modesRead.Refused r) = refusedBy r
 
 unfoldable pub countsAs : List ℕ → CountsRead → Answer statement.Counts
 countsAs s (countsRead.Counts c) = accepted (countsIn s c)
@@ -65,11 +68,18 @@ abbrev pub modesListed : Family → List Item → Answer statement.Modes
 modesListed f is = modeList f is >>= λ ms. accepted (statement.modes (firsts ms))
 
 -- what a token of a list is as an entry
-abbrev pub kindOf : Bool → Kind
-kindOf true = aNumber
-kindOf false = aWord
+abbrev pub kindOf : ℕ → kinds.Kind
+kindOf k = cond (eqb k 1) kind.Number kind.Word
 
-pub record ItemHere (s : List ℕ) (o : ℕ) (r : declared.Item.Item) : Type 0 where
+abbrev pub ofWord : kinds.Kind → Bool
+ofWord kind.Word = true
+ofWord kind.Number = false
+
+-- the entry as the definition of reading has it
+abbrev pub entryIn : List ℕ → declared.Entry.Entry → Item
+entryIn s r = record { kind = kindAs (r .kind); name = nameIn s (r .name) }
+
+pub record EntryHere (s : List ℕ) (o : ℕ) (r : declared.Entry.Entry) : Type 0 where
   pub inside : InText s (r .name)
-  pub entry : entries 1 (tokensFrom s o) ≡ record { kind = kindOf (r .number); name = nameIn s (r .name) } ∷ []
-  pub behind : rest (tokensFrom s o) ≡ tokensFrom s (r .end)
+  pub entry : entries 1 (tokensFrom s o) ≡ entryIn s r ∷ []
+  pub behind : rest (tokensFrom s o) ≡ tokensFrom s (r .next .at)

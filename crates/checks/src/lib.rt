@@ -7,22 +7,24 @@ ghost use Prim.Native.Nat.{ℕ, _≤_};
 ghost use lib.ListN.{length};
 ghost use Rattle.text.specs.Bytes.{bytes};
 ghost use Rattle.tokens.specs.Class.{classTable};
+ghost use Rattle.tokens.specs.Next.{cursor};
 ghost use mathlib.Core.Option.{some};
 ghost use Rattle.labels.specs.Word.{sameWord, find};
 ghost use Rattle.labels.specs.Label.{labelsOf};
 ghost use Rattle.labels.specs.Table.{labelTable, foundAs};
 ghost use Rattle.reading.specs.Statement.{aWord, aNumber};
-ghost use Rattle.reading.specs.Argument.{array, placeOf, loneMode, loneCount, modeList, countList, modesOf, countsOf, operandOf, itemsOf};
+ghost use Rattle.reading.specs.Argument.{array, placeOf, loneMode, loneCount, countList, modesOf, countsOf, operandOf, itemsOf};
 ghost use Rattle.reading.specs.Feature.{isN, operatorOf, nameOf};
 ghost use Rattle.forms.specs.Items.{tokensFrom, nameIn, itemsIn, listed, rest};
-ghost use Rattle.forms.specs.Forms.{argIn, placesIn, valuesIn};
+ghost use Rattle.forms.specs.Forms.{argIn, valuesIn};
 ghost use Rattle.forms.specs.Fits.{InText, Listed, Stands, Fits};
-ghost use Rattle.checks.specs.Answers.{checkedAs, modesAs, countsAs, operandAs, itemsAs, nameAs, opReadAs, ItemHere, modesListed};
+ghost use Rattle.checks.specs.Answers.{checkedAs, modesAs, countsAs, operandAs, itemsAs, nameAs, opReadAs, EntryHere, kindOf, ofWord, modesListed};
 use counts::Counted;
 use forms::Arg;
 use forms::Counts;
 use forms::CovariateOp;
 use forms::Items;
+use forms::Kind;
 use forms::Modes;
 use forms::Name;
 use forms::Operand;
@@ -67,40 +69,57 @@ pub enum OpRead {
     Refused(Refusal),
 }
 
-// An entry of a list: whether it is a number, its name, and the offset after it.
-pub struct Item {
-    pub number: bool,
+// An entry of a list: what it is, its name, and the cursor after it.
+pub struct Entry {
+    pub kind: Kind,
     pub name: Name,
-    pub end: usize,
+    pub next: Cursor,
 }
 
-// The entry that stands at an offset of a list.
-pub fn item_at(text: &[u8], classes: &[u8; 256], at: usize) -> Item
-    requires { ⌜ (now classes ≡ classTable) × (listed 1 (tokensFrom (now text) at) ≡ true) ⌝ }
-    ensures { λ r. ⌜ ItemHere (now (text .entry)) at r ⌝ }
+// What a token of a list is as an entry.
+fn kind_of(kind: u8) -> Kind
+    ensures { λ r. ⌜ r ≡ kindOf kind ⌝ }
 {
-    let c = Cursor { at };
-    let token = c.token(text, classes);
-    let next = token.next;
-    Item {
-        number: token.kind == 1,
-        name: Name {
-            offset: token.start,
-            length: next.at - token.start,
-        },
-        end: next.at,
+    if kind == 1 {
+        return Kind::Number;
+    }
+    Kind::Word
+}
+
+fn is_word(kind: Kind) -> bool
+    ensures { λ r. ⌜ r ≡ ofWord kind ⌝ }
+{
+    match kind {
+        Kind::Word => true,
+        Kind::Number => false,
     }
 }
 
-// The offset behind the token at `at`: the `,` between two entries.
-pub fn past_comma(text: &[u8], classes: &[u8; 256], at: usize) -> usize
-    requires { ⌜ now classes ≡ classTable ⌝ }
-    ensures { λ r. ⌜ rest (tokensFrom (now (text .entry)) at) ≡ tokensFrom (now (text .entry)) r ⌝ }
+// The entry that stands at the cursor, or after the blanks there.
+pub fn entry_at(text: &[u8], classes: &[u8; 256], cur: Cursor) -> Entry
+    requires { ⌜ (now classes ≡ classTable) × (listed 1 (tokensFrom (now text) (cur .at)) ≡ true) ⌝ }
+    ensures { λ r. ⌜ EntryHere (now (text .entry)) (cur .at) r ⌝ }
 {
-    let c = Cursor { at };
-    let token = c.token(text, classes);
+    let token = cur.token(text, classes);
     let next = token.next;
-    next.at
+    let name = Name {
+        offset: token.start,
+        length: next.at - token.start,
+    };
+    Entry {
+        kind: kind_of(token.kind),
+        name,
+        next,
+    }
+}
+
+// The cursor behind the next token: the `,` between two entries.
+pub fn past_comma(text: &[u8], classes: &[u8; 256], cur: Cursor) -> Cursor
+    requires { ⌜ now classes ≡ classTable ⌝ }
+    ensures { λ r. ⌜ rest (tokensFrom (now (text .entry)) (cur .at)) ≡ tokensFrom (now (text .entry)) (r .at) ⌝ }
+{
+    let token = cur.token(text, classes);
+    token.next
 }
 
 // A name's bytes looked up in a family.
@@ -113,39 +132,7 @@ pub fn mode_at(text: &[u8], labels: &[u8; 608], family: Family, name: Name) -> F
     labels::find_mode(labels, family, &text[start..end])
 }
 
-// Whether each entry of a list is a mode of a family.
-fn check_modes(
-    text: &[u8],
-    classes: &[u8; 256],
-    labels: &[u8; 608],
-    family: Family,
-    items: Items,
-) -> Checked
-    requires { ⌜ (now classes ≡ classTable) × (now labels ≡ labelTable) × Listed (now text) items ⌝ }
-    ensures { λ r. ⌜ modeList family (itemsIn (now (text .entry)) items) ≡ checkedAs (placesIn family (itemsIn (now (text .entry)) items)) r ⌝ }
-{
-    let mut left = items.count;
-    let mut at = items.first;
-    while 0 < left {
-        let item = item_at(text, classes, at);
-        let name = item.name;
-        match mode_at(text, labels, family, name) {
-            Found::Nothing => {
-                return Checked::Refused(Refusal {
-                    number: 10,
-                    place: name.offset,
-                });
-            }
-            Found::Place(_) => {
-                at = past_comma(text, classes, item.end);
-                left -= 1;
-            }
-        }
-    }
-    Checked::Fine
-}
-
-// A list as modes of a family.
+// A list as modes of a family, each once.
 fn listed_modes(
     text: &[u8],
     classes: &[u8; 256],
@@ -154,12 +141,29 @@ fn listed_modes(
     items: Items,
 ) -> ModesRead
     requires { ⌜ (now classes ≡ classTable) × (now labels ≡ labelTable) × Listed (now text) items ⌝ }
-    ensures { λ r. ⌜ modesAs (now (text .entry)) family r ≡ modesListed family (itemsIn (now (text .entry)) items) ⌝ }
+    ensures { λ r. ⌜ modesAs r ≡ modesListed family (itemsIn (now (text .entry)) items) ⌝ }
 {
-    match check_modes(text, classes, labels, family, items) {
-        Checked::Fine => ModesRead::Modes(Modes::List(items)),
-        Checked::Refused(r) => ModesRead::Refused(r),
+    let mut left = items.count;
+    let mut cur = items.first;
+    let mut packed = 0;
+    while 0 < left {
+        let entry = entry_at(text, classes, cur);
+        let name = entry.name;
+        match mode_at(text, labels, family, name) {
+            Found::Nothing => {
+                return ModesRead::Refused(Refusal {
+                    number: 10,
+                    place: name.offset,
+                });
+            }
+            Found::Place(place) => {
+                packed = packs::with_place(packed, place as u32);
+                cur = past_comma(text, classes, entry.next);
+                left -= 1;
+            }
+        }
     }
+    ModesRead::Modes(Modes::List(packed))
 }
 
 // An argument of a wrong kind, refused at its offset.
@@ -200,38 +204,28 @@ pub fn modes_of(
     arg: Arg,
 ) -> ModesRead
     requires { ⌜ (now classes ≡ classTable) × (now labels ≡ labelTable) × Fits (now text) arg ⌝ }
-    ensures { λ r. ⌜ modesAs (now (text .entry)) family r ≡ modesOf family (argIn (now (text .entry)) arg) ⌝ }
+    ensures { λ r. ⌜ modesAs r ≡ modesOf family (argIn (now (text .entry)) arg) ⌝ }
 {
     match arg {
         Arg::Star(_) => ModesRead::Modes(Modes::Wildcard),
-        Arg::Plus(at) => ModesRead::Refused(wrong(at)),
-        Arg::Symbol { at, name: _ } => ModesRead::Refused(wrong(at)),
         Arg::Word(name) => lone_mode(text, labels, family, name),
-        Arg::Number(name) => ModesRead::Refused(wrong(name.offset)),
-        Arg::Range {
-            at,
-            low: _,
-            high: _,
-        } => ModesRead::Refused(wrong(at)),
         Arg::Array { at, items } => {
             if items.count == 0 {
                 return ModesRead::Refused(wrong(at));
             }
             listed_modes(text, classes, labels, family, items)
         }
+        _ => ModesRead::Refused(wrong(place_of(arg))),
     }
 }
 
-// A word alone as a mode of a family: it is looked up as it stands, and not read again as the list of one that the answer names.
+// A word alone as a mode of a family: it is looked up as it stands.
 fn lone_mode(text: &[u8], labels: &[u8; 608], family: Family, name: Name) -> ModesRead
-    requires { ⌜ (now labels ≡ labelTable) × Stands (now text) aWord name ⌝ }
-    ensures { λ r. ⌜ modesAs (now (text .entry)) family r ≡ loneMode family aWord (nameIn (now (text .entry)) name) ⌝ }
+    requires { ⌜ (now labels ≡ labelTable) × InText (now text) name ⌝ }
+    ensures { λ r. ⌜ modesAs r ≡ loneMode family aWord (nameIn (now (text .entry)) name) ⌝ }
 {
     match mode_at(text, labels, family, name) {
-        Found::Place(_) => ModesRead::Modes(Modes::List(Items {
-            first: name.offset,
-            count: 1,
-        })),
+        Found::Place(place) => ModesRead::Modes(Modes::List(place as u32 + 1)),
         Found::Nothing => ModesRead::Refused(Refusal {
             number: 10,
             place: name.offset,
@@ -245,13 +239,14 @@ fn check_counts(text: &[u8], classes: &[u8; 256], at: usize, items: Items, limit
     ensures { λ r. ⌜ countList limit at (itemsIn (now (text .entry)) items) ≡ checkedAs (valuesIn (itemsIn (now (text .entry)) items)) r ⌝ }
 {
     let mut left = items.count;
-    let mut o = items.first;
+    let mut cur = items.first;
     while 0 < left {
-        let item = item_at(text, classes, o);
-        if !item.number {
+        let entry = entry_at(text, classes, cur);
+        let kind = entry.kind;
+        if is_word(kind) {
             return Checked::Refused(wrong(at));
         }
-        let name = item.name;
+        let name = entry.name;
         match forms::count_at(text, name, limit) {
             Counted::Refused => {
                 return Checked::Refused(Refusal {
@@ -260,7 +255,7 @@ fn check_counts(text: &[u8], classes: &[u8; 256], at: usize, items: Items, limit
                 });
             }
             Counted::Count(_) => {
-                o = past_comma(text, classes, item.end);
+                cur = past_comma(text, classes, entry.next);
                 left -= 1;
             }
         }
@@ -274,13 +269,10 @@ pub fn counts_of(text: &[u8], classes: &[u8; 256], arg: Arg, limit: u32) -> Coun
     ensures { λ r. ⌜ countsAs (now (text .entry)) r ≡ countsOf limit (argIn (now (text .entry)) arg) ⌝ }
 {
     match arg {
-        Arg::Star(at) => CountsRead::Refused(wrong(at)),
-        Arg::Plus(at) => CountsRead::Refused(wrong(at)),
-        Arg::Symbol { at, name: _ } => CountsRead::Refused(wrong(at)),
-        Arg::Word(name) => CountsRead::Refused(wrong(name.offset)),
         Arg::Number(name) => lone_count(text, name, limit),
         Arg::Range { at: _, low, high } => CountsRead::Counts(Counts::Range(low, high)),
         Arg::Array { at, items } => listed_counts(text, classes, at, items, limit),
+        _ => CountsRead::Refused(wrong(place_of(arg))),
     }
 }
 
@@ -318,33 +310,32 @@ fn listed_counts(
     }
 }
 
+// A word or a number alone as a list: its one entry is read from where it stands.
+fn alone(name: Name) -> Items
+    ensures { λ r. ⌜ r ≡ record { first = cursor (name .offset); count = 1 } ⌝ }
+{
+    Items {
+        first: Cursor { at: name.offset },
+        count: 1,
+    }
+}
+
 // An argument as parameters or covariates: names, a symbol, or `*`. It holds in every text where the argument does.
 pub fn operand_of(arg: Arg) -> OperandRead
     ensures { λ r. ⌜ ((s : List ℕ) → Fits s arg → operandAs s r ≡ operandOf (argIn s arg)) ⌝ }
 {
     match arg {
         Arg::Star(_) => OperandRead::Operand(Operand::Wildcard),
-        Arg::Plus(at) => OperandRead::Refused(wrong(at)),
         Arg::Symbol { at: _, name } => OperandRead::Operand(Operand::Symbol(name)),
-        Arg::Word(name) => OperandRead::Operand(Operand::Names(Items {
-            first: name.offset,
-            count: 1,
-        })),
-        Arg::Number(name) => OperandRead::Operand(Operand::Names(Items {
-            first: name.offset,
-            count: 1,
-        })),
-        Arg::Range {
-            at,
-            low: _,
-            high: _,
-        } => OperandRead::Refused(wrong(at)),
+        Arg::Word(name) => OperandRead::Operand(Operand::Names(alone(name))),
+        Arg::Number(name) => OperandRead::Operand(Operand::Names(alone(name))),
         Arg::Array { at, items } => {
             if items.count == 0 {
                 return OperandRead::Refused(wrong(at));
             }
             OperandRead::Operand(Operand::Names(items))
         }
+        _ => OperandRead::Refused(wrong(place_of(arg))),
     }
 }
 
@@ -353,28 +344,15 @@ pub fn items_of(arg: Arg) -> ItemsRead
     ensures { λ r. ⌜ ((s : List ℕ) → Fits s arg → itemsAs s r ≡ itemsOf (argIn s arg)) ⌝ }
 {
     match arg {
-        Arg::Star(at) => ItemsRead::Refused(wrong(at)),
-        Arg::Plus(at) => ItemsRead::Refused(wrong(at)),
-        Arg::Symbol { at, name: _ } => ItemsRead::Refused(wrong(at)),
-        Arg::Word(name) => ItemsRead::Items(Items {
-            first: name.offset,
-            count: 1,
-        }),
-        Arg::Number(name) => ItemsRead::Items(Items {
-            first: name.offset,
-            count: 1,
-        }),
-        Arg::Range {
-            at,
-            low: _,
-            high: _,
-        } => ItemsRead::Refused(wrong(at)),
+        Arg::Word(name) => ItemsRead::Items(alone(name)),
+        Arg::Number(name) => ItemsRead::Items(alone(name)),
         Arg::Array { at, items } => {
             if items.count == 0 {
                 return ItemsRead::Refused(wrong(at));
             }
             ItemsRead::Items(items)
         }
+        _ => ItemsRead::Refused(wrong(place_of(arg))),
     }
 }
 
@@ -384,16 +362,7 @@ pub fn word_of(arg: Arg) -> NameRead
 {
     match arg {
         Arg::Word(name) => NameRead::Name(name),
-        Arg::Star(at) => NameRead::Refused(wrong(at)),
-        Arg::Plus(at) => NameRead::Refused(wrong(at)),
-        Arg::Symbol { at, name: _ } => NameRead::Refused(wrong(at)),
-        Arg::Number(name) => NameRead::Refused(wrong(name.offset)),
-        Arg::Range {
-            at,
-            low: _,
-            high: _,
-        } => NameRead::Refused(wrong(at)),
-        Arg::Array { at, items: _ } => NameRead::Refused(wrong(at)),
+        _ => NameRead::Refused(wrong(place_of(arg))),
     }
 }
 
@@ -403,16 +372,7 @@ pub fn number_of(arg: Arg) -> NameRead
 {
     match arg {
         Arg::Number(name) => NameRead::Name(name),
-        Arg::Star(at) => NameRead::Refused(wrong(at)),
-        Arg::Plus(at) => NameRead::Refused(wrong(at)),
-        Arg::Symbol { at, name: _ } => NameRead::Refused(wrong(at)),
-        Arg::Word(name) => NameRead::Refused(wrong(name.offset)),
-        Arg::Range {
-            at,
-            low: _,
-            high: _,
-        } => NameRead::Refused(wrong(at)),
-        Arg::Array { at, items: _ } => NameRead::Refused(wrong(at)),
+        _ => NameRead::Refused(wrong(place_of(arg))),
     }
 }
 
@@ -423,15 +383,7 @@ pub fn op_of(arg: Arg) -> OpRead
     match arg {
         Arg::Star(_) => OpRead::Op(CovariateOp::Multiply),
         Arg::Plus(_) => OpRead::Op(CovariateOp::Add),
-        Arg::Symbol { at, name: _ } => OpRead::Refused(wrong(at)),
-        Arg::Word(name) => OpRead::Refused(wrong(name.offset)),
-        Arg::Number(name) => OpRead::Refused(wrong(name.offset)),
-        Arg::Range {
-            at,
-            low: _,
-            high: _,
-        } => OpRead::Refused(wrong(at)),
-        Arg::Array { at, items: _ } => OpRead::Refused(wrong(at)),
+        _ => OpRead::Refused(wrong(place_of(arg))),
     }
 }
 

@@ -1,18 +1,17 @@
 // The calls for programs in other languages. A slice is a pointer and a length; an answer is one number (`word`).
 ghost use mathlib.Core.Path.{_≡_};
-ghost use Prim.Native.Nat.{_+_, _*_, _≤_};
+ghost use Prim.Native.Nat.{_+_, _*_, _<_};
 ghost use lib.ListN.{length};
 ghost use Rattle.tokens.specs.Lex.{tokens};
 ghost use Rattle.tokens.specs.Next.{scanned};
-ghost use Rattle.reading.specs.Read.{readText};
-ghost use Rattle.statements.specs.Answers.{counted};
 ghost use Rattle.canonical.specs.Print.{printText, lengthOf, fitting, output};
-ghost use Rattle.numbers.specs.Answers.{numbersIn};
+ghost use Rattle.values.specs.Calls.{counting};
+ghost use Rattle.statement_numbers.specs.Answers.{numbering};
 ghost use Rattle.dumachik.specs.Scan.{strayAt};
 ghost use Rattle.dumachik.specs.Word.{word};
 use forms::Refusal;
-use numbers::NumbersAt;
 use render::Printed;
+use statement_numbers::NumbersAt;
 use statements::CountRead;
 use tokens::Scanned;
 
@@ -28,7 +27,7 @@ pub extern "C" fn mfl_scan(text: &[u8]) -> usize
 }
 
 fn refusal_word(refusal: Refusal) -> u64
-    requires { ⌜ refusal .place ≤ 13835058055282163712 ⌝ }
+    requires { ⌜ refusal .place < 4294967296 ⌝ }
     ensures { λ r. ⌜ r ≡ refusal .number * 4294967296 + refusal .place ⌝ }
 {
     refusal.number as u64 * 4294967296 + refusal.place as u64
@@ -37,7 +36,7 @@ fn refusal_word(refusal: Refusal) -> u64
 // Count: the number of statements of a text.
 #[no_mangle]
 pub extern "C" fn mfl_count(text: &[u8]) -> u64
-    ensures { λ r. ⌜ r ≡ word (counted 0 (readText 64 (now (text .entry)))) ⌝ }
+    ensures { λ r. ⌜ r ≡ word (counting 64 (now (text .entry))) ⌝ }
 {
     match statements::count(text) {
         CountRead::Count(n) => n as u64,
@@ -48,10 +47,10 @@ pub extern "C" fn mfl_count(text: &[u8]) -> u64
 // Statement: the numbers of the statement at an index in `out`, and how many they are.
 #[no_mangle]
 pub extern "C" fn mfl_statement(text: &[u8], index: u32, out: &mut [u32]) -> u64
-    ensures { λ r. ⌜ r ≡ word (lengthOf (fitting (length (now (out .entry))) (numbersIn (now (text .entry)) index))) ⌝ }
-    ensures { λ _. ⌜ now (out .exit) ≡ output (fitting (length (now (out .entry))) (numbersIn (now (text .entry)) index)) (now (out .entry)) ⌝ }
+    ensures { λ r. ⌜ r ≡ word (lengthOf (fitting (length (now (out .entry))) (numbering 64 (now (text .entry)) index))) ⌝ }
+    ensures { λ _. ⌜ now (out .exit) ≡ output (fitting (length (now (out .entry))) (numbering 64 (now (text .entry)) index)) (now (out .entry)) ⌝ }
 {
-    match numbers::statement_numbers(text, index, out) {
+    match statement_numbers::numbers_at(text, index, out) {
         NumbersAt::Count(n) => n as u64,
         NumbersAt::Refused(refusal) => refusal_word(refusal),
     }

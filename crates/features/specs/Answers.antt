@@ -41,9 +41,9 @@ unfoldable pub builtAs : List ℕ → Built → Answer Feature
 builtAs s (built.Feature f) = accepted (featureIn s f)
 builtAs s (built.Refused r) = refusedBy r
 
-unfoldable pub someModesAs : List ℕ → Family → SomeModesRead → Answer (Option Modes)
-someModesAs s f (someModesRead.Modes m) = accepted (someModesIn s f m)
-someModesAs s f (someModesRead.Refused r) = refusedBy r
+unfoldable pub someModesAs : SomeModesRead → Answer (Option Modes)
+someModesAs (someModesRead.Modes m) = accepted (someModesIn m)
+someModesAs (someModesRead.Refused r) = refusedBy r
 
 unfoldable pub someNameAs : List ℕ → SomeNameRead → Answer (Option Name)
 someNameAs s (someNameRead.Name n) = accepted (someNameIn s n)
@@ -59,7 +59,7 @@ pub record Eta : Type 0 where
   pub effects : Modes
 
 unfoldable pub etaAs : List ℕ → EtaRead → Answer Eta
-etaAs s (etaRead.Eta p e) = accepted (record { parameters = operandIn s p; effects = modesIn s VariabilityEffect e })
+etaAs s (etaRead.Eta p e) = accepted (record { parameters = operandIn s p; effects = modesIn e })
 etaAs s (etaRead.Refused r) = refusedBy r
 
 abbrev pub etaOf : Name → List Arg → Answer Eta

@@ -109,7 +109,7 @@ fn family_of(alone: Alone) -> Family
 }
 
 fn feature_with(alone: Alone, modes: Modes) -> Feature
-    ensures { λ r. ⌜ ((s : List ℕ) → featureIn s r ≡ featureWith alone (modesIn s (familyOf alone) modes)) ⌝ }
+    ensures { λ r. ⌜ ((s : List ℕ) → featureIn s r ≡ featureWith alone (modesIn modes)) ⌝ }
 {
     match alone {
         Alone::Absorption => Feature::Absorption(modes),
@@ -153,7 +153,7 @@ fn second_modes(
     args: Args,
 ) -> SomeModesRead
     requires { ⌜ (now classes ≡ classTable) × (now labels ≡ labelTable) × AllFit (now text) args ⌝ }
-    ensures { λ r. ⌜ someModesAs (now (text .entry)) family r ≡ optionally (modesOf family) (secondIn (now (text .entry)) args) ⌝ }
+    ensures { λ r. ⌜ someModesAs r ≡ optionally (modesOf family) (secondIn (now (text .entry)) args) ⌝ }
 {
     if args.count == 1 {
         return SomeModesRead::Modes(SomeModes::Absent);
@@ -264,7 +264,7 @@ fn transits(
 
 // Effects that are not the mandatory `*`.
 fn explicit(arg: Arg, modes: Modes, optional: bool) -> ModesRead
-    ensures { λ r. ⌜ ((s : List ℕ) → modesAs s CovariateEffect r ≡ explicit·spec optional (argIn s arg) (modesIn s CovariateEffect modes)) ⌝ }
+    ensures { λ r. ⌜ ((s : List ℕ) → modesAs r ≡ explicit·spec optional (argIn s arg) (modesIn modes)) ⌝ }
 {
     if optional {
         return ModesRead::Modes(modes);
@@ -287,7 +287,7 @@ fn effects_of(
     optional: bool,
 ) -> ModesRead
     requires { ⌜ (now classes ≡ classTable) × (now labels ≡ labelTable) × Fits (now text) arg ⌝ }
-    ensures { λ r. ⌜ modesAs (now (text .entry)) CovariateEffect r ≡ effectsOf optional (argIn (now (text .entry)) arg) ⌝ }
+    ensures { λ r. ⌜ modesAs r ≡ effectsOf optional (argIn (now (text .entry)) arg) ⌝ }
 {
     match checks::modes_of(text, classes, labels, Family::CovariateEffect, arg) {
         ModesRead::Modes(modes) => explicit(arg, modes, optional),

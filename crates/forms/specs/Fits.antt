@@ -18,7 +18,7 @@ InText s n = n .offset + n .length ≤ length s
 
 -- a list's entries are words and numbers, at most 64
 pub record Listed (s : List ℕ) (is : Items) : Type 0 where
-  pub are : listed (is .count) (tokensFrom s (is .first)) ≡ true
+  pub are : listed (is .count) (tokensFrom s (is .first .at)) ≡ true
   pub few : is .count ≤ 64
 
 -- a word or number alone is the one entry of a list that starts with it

@@ -24,7 +24,7 @@ use Rattle.labels.specs.Word.{find}
 use Rattle.labels.specs.Label.{labelsOf}
 use Rattle.reading.specs.Statement.{Name, aWord, aNumber, Item}
 use Rattle.reading.specs.Statement as statement
-use Rattle.reading.specs.Argument.{firsts}
+use Rattle.packs.specs.Packs.{places}
 use Rattle.reading.specs.Argument as argument
 use Rattle.forms.specs.declared.Arg.{Arg}
 use Rattle.forms.specs.declared.Arg.the-variants.{Star, Plus, Symbol, Word, Number, Range, Array}
@@ -61,7 +61,9 @@ use Rattle.forms.specs.declared.Feature.the-variants.{
   Covariance,
 }
 use Rattle.forms.specs.declared.Statement.{Statement}
-use Rattle.forms.specs.declared.Statement.the-variants as form
+use Rattle.forms.specs.declared.Statement.the-variants as statements
+use Rattle.forms.specs.declared.Name as form
+use Rattle.forms.specs.declared.Items.{Items}
 use Rattle.forms.specs.Items.{nameIn, itemsIn}
 
 unfoldable pub argIn : List ℕ → Arg → argument.Arg
@@ -94,9 +96,9 @@ placeFor f i = placeOr0 (find (i .name .spelling) (labelsOf f))
 abbrev pub placesIn : Family → List Item → List ℕ
 placesIn f is = map (placeFor f) is
 
-unfoldable pub modesIn : List ℕ → Family → Modes → statement.Modes
-modesIn s f modes.Wildcard = statement.allModes
-modesIn s f (modes.List is) = statement.modes (firsts (placesIn f (itemsIn s is)))
+unfoldable pub modesIn : Modes → statement.Modes
+modesIn modes.Wildcard = statement.allModes
+modesIn (modes.List n) = statement.modes (places n)
 
 -- each entry as a 32-bit number, all of them being counts
 abbrev pub countOr0 : Counted → ℕ
@@ -127,31 +129,59 @@ abbrev pub opAs : CovariateOp → statement.Operator
 opAs Multiply = statement.multiply
 opAs Add = statement.add
 
-unfoldable pub someModesIn : List ℕ → Family → SomeModes → Option statement.Modes
-someModesIn s f someModes.Absent = none
-someModesIn s f (someModes.Given m) = some (modesIn s f m)
+unfoldable pub someModesIn : SomeModes → Option statement.Modes
+someModesIn someModes.Absent = none
+someModesIn (someModes.Given m) = some (modesIn m)
 
 unfoldable pub someNameIn : List ℕ → SomeName → Option Name
 someNameIn s someName.Absent = none
 someNameIn s (someName.Given n) = some (nameIn s n)
 
+-- What the names and the lists of a form mean, wherever they stand. Lists stand in the first two arguments alone.
+pub record Meanings : Type 0 where
+  pub name : form.Name → Name
+  pub someName : SomeName → Option Name
+  pub counts : Counts → statement.Counts
+  pub transits : TransitCounts → statement.TransitCounts
+  pub first : Operand → statement.Operand
+  pub second : Operand → statement.Operand
+  pub values : Items → List Item
+
+abbrev pub featureBy : Meanings → Feature → statement.Feature
+featureBy x (Absorption m) = statement.Absorption (modesIn m)
+featureBy x (Elimination m) = statement.Elimination (modesIn m)
+featureBy x (Peripherals c k) = statement.Peripherals (x .counts c) (someModesIn k)
+featureBy x (Transits c d) = statement.Transits (x .transits c) (someModesIn d)
+featureBy x (Lagtime m) = statement.Lagtime (modesIn m)
+featureBy x (Covariate o p c e op) = statement.Covariate o (x .first p) (x .second c) (modesIn e) (opAs op)
+featureBy x (Allometry c r) = statement.Allometry (x .name c) (x .someName r)
+featureBy x (DirectEffect m) = statement.DirectEffect (modesIn m)
+featureBy x (EffectComp m) = statement.EffectComp (modesIn m)
+featureBy x (IndirectEffect m p) = statement.IndirectEffect (modesIn m) (modesIn p)
+featureBy x (Metabolite m) = statement.Metabolite (modesIn m)
+featureBy x (Iiv o p e) = statement.Iiv o (x .first p) (modesIn e)
+featureBy x (Iov o p e) = statement.Iov o (x .first p) (modesIn e)
+featureBy x (Covariance o l p) = statement.Covariance o (modesIn l) (x .second p)
+
+abbrev pub statementBy : Meanings → Statement → statement.Statement
+statementBy x (statements.Let n is) = statement.Let (x .name n) (x .values is)
+statementBy x (statements.Feature f) = statement.feature (featureBy x f)
+
+-- in a text
+abbrev pub inText : List ℕ → Meanings
+inText s = record {
+  name = nameIn s;
+  someName = someNameIn s;
+  counts = countsIn s;
+  transits = transitsIn s;
+  first = operandIn s;
+  second = operandIn s;
+  values = itemsIn s;
+}
+
 unfoldable pub featureIn : List ℕ → Feature → statement.Feature
-featureIn s (Absorption m) = statement.Absorption (modesIn s AbsorptionMode m)
-featureIn s (Elimination m) = statement.Elimination (modesIn s EliminationMode m)
-featureIn s (Peripherals c k) = statement.Peripherals (countsIn s c) (someModesIn s PeripheralKind k)
-featureIn s (Transits c d) = statement.Transits (transitsIn s c) (someModesIn s DepotMode d)
-featureIn s (Lagtime m) = statement.Lagtime (modesIn s LagtimeMode m)
-featureIn s (Covariate o p c e op) =
-    statement.Covariate o (operandIn s p) (operandIn s c) (modesIn s CovariateEffect e) (opAs op)
-featureIn s (Allometry c r) = statement.Allometry (nameIn s c) (someNameIn s r)
-featureIn s (DirectEffect m) = statement.DirectEffect (modesIn s PdMode m)
-featureIn s (EffectComp m) = statement.EffectComp (modesIn s PdMode m)
-featureIn s (IndirectEffect m p) = statement.IndirectEffect (modesIn s PdMode m) (modesIn s ProductionMode p)
-featureIn s (Metabolite m) = statement.Metabolite (modesIn s MetaboliteMode m)
-featureIn s (Iiv o p e) = statement.Iiv o (operandIn s p) (modesIn s VariabilityEffect e)
-featureIn s (Iov o p e) = statement.Iov o (operandIn s p) (modesIn s VariabilityEffect e)
-featureIn s (Covariance o l p) = statement.Covariance o (modesIn s VariabilityLevel l) (operandIn s p)
+featureIn s f = featureBy (inText s) f
 
 unfoldable pub statementIn : List ℕ → Statement → statement.Statement
-statementIn s (form.Let n is) = statement.Let (nameIn s n) (itemsIn s is)
-statementIn s (form.Feature f) = statement.feature (featureIn s f)
+statementIn s (statements.Let n is) = statement.Let (nameIn s n) (itemsIn s is)
+statementIn s (statements.Feature f) = statement.feature (featureIn s f)

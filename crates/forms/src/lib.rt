@@ -6,6 +6,7 @@ ghost use Rattle.counts.specs.Count.{countOf};
 ghost use Rattle.forms.specs.Items.{nameIn};
 ghost use Rattle.forms.specs.Fits.{InText};
 use counts::Counted;
+use tokens::Cursor;
 
 // A name or a symbol: the offset of its first byte, and how many it has.
 pub struct Name {
@@ -13,9 +14,21 @@ pub struct Name {
     pub length: usize,
 }
 
-// The entries of an array, or one word or number alone: the offset from which the first is read, and how many there are.
+// What an entry of a list is.
+pub enum Kind {
+    Word,
+    Number,
+}
+
+// An entry of an array, and a value of a LET.
+pub struct Item {
+    pub kind: Kind,
+    pub name: Name,
+}
+
+// The entries of an array, or one word or number alone: the cursor from which the first is read, and how many there are.
 pub struct Items {
-    pub first: usize,
+    pub first: Cursor,
     pub count: usize,
 }
 
@@ -45,9 +58,10 @@ pub struct Refusal {
     pub place: usize,
 }
 
+// All modes of a family, or some, packed into a number (`packs`).
 pub enum Modes {
     Wildcard,
-    List(Items),
+    List(u32),
 }
 
 pub enum Counts {

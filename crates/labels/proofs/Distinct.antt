@@ -7,23 +7,12 @@ use mathlib.Core.Option.{Option, some}
 use Prim.Native.Nat.{ℕ, zero, suc, _<_}
 use native.Mathlib.Nat.{le-of-suc-le-suc, not-suc-le-zero}
 use lib.ListN.{length, getD}
+use Rattle.text.proofs.Tests.{halves, refuted}
 use Rattle.labels.specs.declared.Family.{Family}
-use Rattle.labels.specs.declared.Family.the-variants.{
-  AbsorptionMode,
-  EliminationMode,
-  PeripheralKind,
-  DepotMode,
-  LagtimeMode,
-  CovariateEffect,
-  PdMode,
-  ProductionMode,
-  MetaboliteMode,
-  VariabilityEffect,
-  VariabilityLevel,
-}
 use Rattle.labels.specs.Label.{labelsOf, keywords}
 use Rattle.labels.specs.Word.{sameWord, find, absent, distinct}
-use Rattle.labels.proofs.Words.{halves, refuted, same-self, same-sym, same-trans}
+use Rattle.labels.proofs.Families.{by-family}
+use Rattle.labels.proofs.Words.{same-self, same-sym, same-trans}
 
 -- a word that is one of the rest is not the first label, where that is not in the rest
 not-first : (w l x : List ℕ) (o : Option ℕ) (i : ℕ) → absent o ≡ true → (sameWord l x ≡ true → o ≡ some i) → sameWord w x ≡ true → sameWord w l ≡ false
@@ -48,17 +37,7 @@ own-place ls i d h = found (getD ls i []) ls i d h (same-self (getD ls i []))
 
 pub labels-distinct : (f : Family) → distinct (labelsOf f) ≡ true
 unfolding distinct find sameWord labelsOf
-labels-distinct AbsorptionMode = refl
-labels-distinct EliminationMode = refl
-labels-distinct PeripheralKind = refl
-labels-distinct DepotMode = refl
-labels-distinct LagtimeMode = refl
-labels-distinct CovariateEffect = refl
-labels-distinct PdMode = refl
-labels-distinct ProductionMode = refl
-labels-distinct MetaboliteMode = refl
-labels-distinct VariabilityEffect = refl
-labels-distinct VariabilityLevel = refl
+labels-distinct = by-family (λ f. distinct (labelsOf f)) (λ f. true) refl
 
 pub keywords-distinct : distinct keywords ≡ true
 unfolding distinct find sameWord keywords

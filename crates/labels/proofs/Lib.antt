@@ -1,4 +1,5 @@
 pub mod Words
+pub mod Families
 pub mod Finding
 pub mod Distinct
 pub mod Tables

@@ -2,22 +2,23 @@
 -- Assumes nothing.
 use mathlib.Core.Path.{_≡_, refl, sym, ap, _∙_}
 use mathlib.Core.Bool.{Bool, true, false, cond, _&&_, false≢true}
-use mathlib.Core.List.{List, [], _∷_, map}
+use mathlib.Core.List.{List, []}
 use mathlib.Core.Option.{Option, some, none}
-use Prim.Native.Nat.{ℕ, zero, suc, _+_, _≤_, _<_}
-use native.Mathlib.Nat.{add-zero, zero-add, le-of-suc-le-suc, not-suc-le-zero}
+use Prim.Native.Nat.{ℕ, _≤_, _<_}
+use native.Mathlib.Nat.{zero-add}
 use native.Mathlib.Omega.{arith}
 use lib.Dec.{eqb, leb}
 use lib.ListN.{length, getD, length-map, List·getD-map}
 use borrow.Author.Tests.{eqb-true, leb-true}
-use Rattle.text.specs.Bytes.{is}
+use Rattle.text.specs.Bytes.{is, every, countUp}
+use Rattle.text.proofs.Tests.{halves}
+use Rattle.text.proofs.Lists.{countUp-every}
 use Rattle.labels.specs.Label.{keywords}
 use Rattle.labels.specs.Word.{lower, sameWord, find}
 use Rattle.labels.specs.Likely.{likelyPlace}
-use Rattle.labels.proofs.Words.{halves, same-lower}
+use Rattle.labels.proofs.Words.{same-lower}
 use Rattle.labels.proofs.Finding.{found-at}
 use Rattle.labels.proofs.Distinct.{found, keywords-distinct}
-use Rattle.labels.proofs.Tables.{one-on}
 
 -- the place that a word's length and second letter tell
 abbrev pub likelyOf : List ℕ → ℕ
@@ -31,36 +32,25 @@ same-second : (v w : List ℕ) → sameWord v w ≡ true → lower (getD v 1 0) 
 same-second v w h =
     sym (List·getD-map lower v 1 0) ∙ ap (λ (l : List ℕ). getD l 1 0) (same-lower v w h) ∙ List·getD-map lower w 1 0
 
--- each label, at its place counted from i, has three letters or more and is the likely one for its length and second letter
-unfoldable allLikely : ℕ → List (List ℕ) → Bool
-allLikely i [] = true
-allLikely i (l ∷ ls) = (leb 3 (length l) && eqb (likelyOf l) i) && allLikely (suc i) ls
+-- a keyword has three letters or more, and is the likely one for its length and second letter
+abbrev isLikely : ℕ → Bool
+isLikely i = leb 3 (length (getD keywords i [])) && eqb (likelyOf (getD keywords i [])) i
 
-keywords-likely : allLikely 0 keywords ≡ true
-unfolding allLikely likelyPlace keywords
+keywords-likely : every isLikely (countUp 0 (length keywords)) ≡ true
+unfolding likelyPlace keywords
 keywords-likely = refl
-
-likely-row : (ls : List (List ℕ)) (i k : ℕ) → allLikely i ls ≡ true → k < length ls
-    → (3 ≤ length (getD ls k [])) × (likelyOf (getD ls k []) ≡ i + k)
-unfolding allLikely
-likely-row [] i k a h = absurd (not-suc-le-zero h)
-likely-row (l ∷ ls) i zero a h =
-    let p = halves (leb 3 (length l) && eqb (likelyOf l) i) (allLikely (suc i) ls) a in
-    let q = halves (leb 3 (length l)) (eqb (likelyOf l) i) (p .0) in
-    (leb-true _ _ (q .0), rw (add-zero i) (eqb-true _ _ (q .1)))
-likely-row (l ∷ ls) i (suc k) a h =
-    let p = halves (leb 3 (length l) && eqb (likelyOf l) i) (allLikely (suc i) ls) a in
-    rw (← one-on i k) (likely-row ls (suc i) k (p .1) (le-of-suc-le-suc h))
 
 -- a word that is found among the keywords has three letters or more, and is the likely one
 found-likely : (w : List ℕ) (i : ℕ) → find w keywords ≡ some i
     → (3 ≤ length w) × (likelyOf w ≡ i) × (sameWord w (getD keywords i []) ≡ true)
 found-likely w i e =
     let f = found-at w keywords i e in
-    let r = likely-row keywords 0 i keywords-likely (f .within) in
+    let r =
+    halves (leb 3 (length (getD keywords i []))) (eqb (likelyOf (getD keywords i [])) i)
+    (rw (zero-add i) at (countUp-every isLikely 0 (length keywords) i keywords-likely (f .within))) in
     let n = same-length w (getD keywords i []) (f .same) in
     let b = same-second w (getD keywords i []) (f .same) in
-    (omega (arith, n, r .0), rw (n, b) (r .1 ∙ zero-add i), f .same)
+    (omega (arith, n, leb-true 3 (length (getD keywords i [])) (r .0)), rw (n, b) (eqb-true _ _ (r .1)), f .same)
 
 -- what of two places is within a bound
 either : {m a b : ℕ} (t : Bool) → a < m → b < m → cond t a b < m

@@ -37,21 +37,26 @@ labels-none t i n k h =
     rw left
 
 -- of the n rows from row i on, k are passed
-abbrev pub Passed : List ℕ → List ℕ → ℕ → ℕ → ℕ → Type 0
-Passed w t i n k = find w (labelsIn t i n) ≡ counted k (find w (labelsIn t (i + k) (n - k)))
+pub record Passed (w t : List ℕ) (i n k : ℕ) : Type 0 where
+  pub within : k ≤ n
+  pub left : find w (labelsIn t i n) ≡ counted k (find w (labelsIn t (i + k) (n - k)))
 
-module _ (w t : List ℕ) (i n : ℕ) where
-  pub passed-none : Passed w t i n 0
-  passed-none = rw (add-zero i, sub-zero n) (sym (counted-zero (find w (labelsIn t i n))))
+pub passed-none : (w t : List ℕ) (i n : ℕ) → Passed w t i n 0
+passed-none w t i n = record { within = omega arith; left = rw (add-zero i, sub-zero n) (sym (counted-zero (find w (labelsIn t i n)))) }
 
-  pub passed-more : (k : ℕ) → k < n → Passed w t i n k → sameWord w (labelAt t (i + k)) ≡ false → Passed w t i n (k + 1)
+module _ {w t : List ℕ} {i n k : ℕ} (p : Passed w t i n k) where
+  pub passed-more : k < n → sameWord w (labelAt t (i + k)) ≡ false → Passed w t i n (k + 1)
   unfolding find
-  passed-more k h p s = p ∙ simp (labels-more t i n k h, s) (counted-next k (find w (labelsIn t (i + (k + 1)) (n - (k + 1)))))
+  passed-more h s =
+      record {
+        within = omega arith;
+        left = p .left ∙ simp (labels-more t i n k h, s) (counted-next k (find w (labelsIn t (i + (k + 1)) (n - (k + 1)))));
+      }
 
-  pub passed-found : (k : ℕ) → k < n → Passed w t i n k → sameWord w (labelAt t (i + k)) ≡ true → find w (labelsIn t i n) ≡ some k
+  pub passed-found : k < n → sameWord w (labelAt t (i + k)) ≡ true → find w (labelsIn t i n) ≡ some k
   unfolding find
-  passed-found k h p s = p ∙ simp (labels-more t i n k h, s, add-zero k)
+  passed-found h s = p .left ∙ simp (labels-more t i n k h, s, add-zero k)
 
-  pub passed-all : (k : ℕ) → n ≤ k → Passed w t i n k → find w (labelsIn t i n) ≡ none
+  pub passed-all : n ≤ k → find w (labelsIn t i n) ≡ none
   unfolding find
-  passed-all k h p = p ∙ simp (labels-none t i n k h)
+  passed-all h = p .left ∙ simp (labels-none t i n k h)

@@ -2,25 +2,17 @@
 -- by byte from the front.
 -- Assumes nothing.
 use mathlib.Core.Path.{_≡_, refl, sym, ap, _∙_}
-use mathlib.Core.Bool.{Bool, true, false, _&&_, false≢true, and-false}
+use mathlib.Core.Bool.{true, false, _&&_, false≢true, and-false}
 use mathlib.Core.List.{List, [], _∷_, map}
 use Prim.Native.Nat.{ℕ, suc, _+_, _≤_, _<_}
 use native.Mathlib.Numerals.{add-one}
+use native.Mathlib.Omega.{arith}
 use lib.Dec.{eqb}
 use lib.ListN.{length, getD, drop, drop-of-length-le}
 use lib.Seq.{drop-cons}
-use borrow.Author.Tests.{eq-eqb, eqb-true}
+use borrow.Author.Tests.{eq-eqb, eqb-true, ne-eqb}
+pub use Rattle.text.proofs.Tests.{halves}
 use Rattle.labels.specs.Word.{lower, sameWord}
-
--- both halves of a test that passes
-pub halves : (a b : Bool) → a && b ≡ true → (a ≡ true) × (b ≡ true)
-halves true b h = (refl, h)
-halves false b h = absurd (false≢true h)
-
--- a test that cannot pass
-pub refuted : (t : Bool) → (t ≡ true → ⊥) → t ≡ false
-refuted true n = absurd (n refl)
-refuted false n = refl
 
 pub same-lower : (v w : List ℕ) → sameWord v w ≡ true → map lower v ≡ map lower w
 unfolding sameWord
@@ -58,13 +50,24 @@ lengths-differ [] (y ∷ ys) n = refl
 lengths-differ (x ∷ xs) [] n = refl
 lengths-differ (x ∷ xs) (y ∷ ys) n = rw (lengths-differ xs ys (λ e. n (ap suc e))) (and-false (eqb (lower x) (lower y)))
 
--- what is left from a place is the bytes there and what is left after them
-pub same-step : (v w : List ℕ) (i : ℕ) → i < length v → i < length w
-    → sameWord (drop i v) (drop i w) ≡ (eqb (lower (getD v i 0)) (lower (getD w i 0)) && sameWord (drop (i + 1) v) (drop (i + 1) w))
-unfolding sameWord
-same-step v w i h k = rw (add-one, drop-cons v i 0, drop-cons w i 0)
+-- words of one length are compared up to a place: they are the same if what is left of them from there on is
+pub record Alike (v w : List ℕ) (i : ℕ) : Type 0 where
+  pub within : i ≤ length v
+  pub even : length v ≡ length w
+  pub same : sameWord v w ≡ sameWord (drop i v) (drop i w)
 
--- nothing is left
-pub same-end : (v w : List ℕ) (i : ℕ) → length v ≤ i → length w ≤ i → sameWord (drop i v) (drop i w) ≡ true
-unfolding sameWord
-same-end v w i h k = rw (drop-of-length-le v, drop-of-length-le w)
+module _ {v w : List ℕ} {i : ℕ} (r : Alike v w i) where
+  module _ (h : i < length v) where
+    step : sameWord v w ≡ (eqb (lower (getD v i 0)) (lower (getD w i 0)) && sameWord (drop (i + 1) v) (drop (i + 1) w))
+    unfolding sameWord
+    step = let k : i < length w = omega (arith, r .even) in r .same ∙ rw (add-one, drop-cons v i 0, drop-cons w i 0)
+
+    pub alike-on : lower (getD v i 0) ≡ lower (getD w i 0) → Alike v w (i + 1)
+    alike-on e = record { within = omega arith; even = r .even; same = step ∙ rw (eq-eqb _ _ e) }
+
+    pub alike-not : (lower (getD v i 0) ≡ lower (getD w i 0) → ⊥) → false ≡ sameWord v w
+    alike-not n = sym (step ∙ rw (ne-eqb _ _ n))
+
+  pub alike-end : length v ≤ i → true ≡ sameWord v w
+  unfolding sameWord
+  alike-end h = let k : length w ≤ i = omega (arith, r .even) in sym (r .same ∙ rw (drop-of-length-le v, drop-of-length-le w))

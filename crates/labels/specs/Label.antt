@@ -17,6 +17,39 @@ use Rattle.labels.specs.declared.Family.the-variants.{
   VariabilityLevel,
 }
 
+-- the families, each at the place that is its mark
+abbrev pub families : List Family
+families =
+    AbsorptionMode
+    ∷ EliminationMode
+    ∷ PeripheralKind
+    ∷ DepotMode
+    ∷ LagtimeMode
+    ∷ CovariateEffect
+    ∷ PdMode
+    ∷ ProductionMode
+    ∷ MetaboliteMode
+    ∷ VariabilityEffect
+    ∷ VariabilityLevel
+    ∷ []
+
+abbrev pub markOf : Family → ℕ
+markOf AbsorptionMode = 0
+markOf EliminationMode = 1
+markOf PeripheralKind = 2
+markOf DepotMode = 3
+markOf LagtimeMode = 4
+markOf CovariateEffect = 5
+markOf PdMode = 6
+markOf ProductionMode = 7
+markOf MetaboliteMode = 8
+markOf VariabilityEffect = 9
+markOf VariabilityLevel = 10
+
+-- the keywords have the mark after the families'
+abbrev pub keywordMark : ℕ
+keywordMark = 11
+
 -- a family's labels, in the order that `*` stands for
 unfoldable pub labelsOf : Family → List (List ℕ)
 labelsOf AbsorptionMode = bytes "INST" ∷ bytes "FO" ∷ bytes "ZO" ∷ bytes "SEQ-ZO-FO" ∷ bytes "WEIBULL" ∷ []

@@ -5,7 +5,7 @@ ghost use mathlib.Core.List.{[]};
 ghost use Prim.Native.Nat.{_<_};
 ghost use lib.ListN.{length, getD};
 ghost use Rattle.labels.specs.Word.{lower, sameWord, find};
-ghost use Rattle.labels.specs.Label.{labelsOf, keywords};
+ghost use Rattle.labels.specs.Label.{markOf, labelsOf, keywords};
 ghost use Rattle.labels.specs.Table.{labelTable, keywordTable, foundAs};
 ghost use Rattle.labels.specs.Row.{labelAt, labelsIn, rowFits, rowsFit, Holds};
 ghost use Rattle.labels.specs.Likely.{likelyPlace};
@@ -31,8 +31,14 @@ pub enum Found {
     Nothing,
 }
 
-// A row a label: its family's mark, the number of its bytes, its bytes, and zeros up to 16.
-pub const LABELS: [u8; 608] = *b"\
+// The bytes of a row of a table. Each row has a label: its family's mark, the number of the label's bytes, these bytes, and zeros.
+pub const ROW: usize = 16;
+
+pub type Labels = [u8; 38 * ROW];
+
+pub type Keywords = [u8; 15 * ROW];
+
+pub const LABELS: Labels = *b"\
     \x00\x04INST\0\0\0\0\0\0\0\0\0\0\
     \x00\x02FO\0\0\0\0\0\0\0\0\0\0\0\0\
     \x00\x02ZO\0\0\0\0\0\0\0\0\0\0\0\0\
@@ -73,22 +79,23 @@ pub const LABELS: [u8; 608] = *b"\
     \x0a\x03IOV\0\0\0\0\0\0\0\0\0\0\0\
 ";
 
-pub const KEYWORDS: [u8; 240] = *b"\
-    \x00\x0aABSORPTION\0\0\0\0\
-    \x00\x0bELIMINATION\0\0\0\
-    \x00\x0bPERIPHERALS\0\0\0\
-    \x00\x08TRANSITS\0\0\0\0\0\0\
-    \x00\x07LAGTIME\0\0\0\0\0\0\0\
-    \x00\x09COVARIATE\0\0\0\0\0\
-    \x00\x09ALLOMETRY\0\0\0\0\0\
-    \x00\x0cDIRECTEFFECT\0\0\
-    \x00\x0aEFFECTCOMP\0\0\0\0\
-    \x00\x0eINDIRECTEFFECT\
-    \x00\x0aMETABOLITE\0\0\0\0\
-    \x00\x03IIV\0\0\0\0\0\0\0\0\0\0\0\
-    \x00\x03IOV\0\0\0\0\0\0\0\0\0\0\0\
-    \x00\x0aCOVARIANCE\0\0\0\0\
-    \x00\x03LET\0\0\0\0\0\0\0\0\0\0\0\
+// The keywords have a mark of their own, the one after the families'.
+pub const KEYWORDS: Keywords = *b"\
+    \x0b\x0aABSORPTION\0\0\0\0\
+    \x0b\x0bELIMINATION\0\0\0\
+    \x0b\x0bPERIPHERALS\0\0\0\
+    \x0b\x08TRANSITS\0\0\0\0\0\0\
+    \x0b\x07LAGTIME\0\0\0\0\0\0\0\
+    \x0b\x09COVARIATE\0\0\0\0\0\
+    \x0b\x09ALLOMETRY\0\0\0\0\0\
+    \x0b\x0cDIRECTEFFECT\0\0\
+    \x0b\x0aEFFECTCOMP\0\0\0\0\
+    \x0b\x0eINDIRECTEFFECT\
+    \x0b\x0aMETABOLITE\0\0\0\0\
+    \x0b\x03IIV\0\0\0\0\0\0\0\0\0\0\0\
+    \x0b\x03IOV\0\0\0\0\0\0\0\0\0\0\0\
+    \x0b\x0aCOVARIANCE\0\0\0\0\
+    \x0b\x03LET\0\0\0\0\0\0\0\0\0\0\0\
 ";
 
 // A letter's lower case, as ASCII has it.
@@ -130,7 +137,7 @@ fn label_at(table: &[u8], row: usize) -> &[u8]
     requires { ⌜ rowFits (now table) row ≡ true ⌝ }
     ensures { λ r. ⌜ now r ≡ labelAt (now (table .entry)) row ⌝ }
 {
-    let at = 16 * row;
+    let at = ROW * row;
     let count = table[at + 1] as usize;
     let start = at + 2;
     let end = start + count;
@@ -153,12 +160,12 @@ fn find_rows(table: &[u8], first: usize, count: usize, word: &[u8]) -> Found
     Found::Nothing
 }
 
-// The rows of a family in the table of labels: the first, and how many.
+// The rows of a family, which are those with its mark: the first, and how many.
 struct Rows(usize, usize);
 
 // A look-up visits the rows of one family alone.
 fn rows_of(family: Family) -> Rows
-    ensures { λ r. ⌜ Holds labelTable (r .0) (r .1) (labelsOf family) ⌝ }
+    ensures { λ r. ⌜ Holds labelTable (markOf family) (r .0) (r .1) (labelsOf family) ⌝ }
 {
     match family {
         Family::AbsorptionMode => Rows(0, 5),
@@ -177,7 +184,7 @@ fn rows_of(family: Family) -> Rows
 
 // The place of a mode's label in its family. The outermost caller makes the table once and lends it: a constant is built anew wherever it
 // is indexed.
-pub fn find_mode(labels: &[u8; 608], family: Family, word: &[u8]) -> Found
+pub fn find_mode(labels: &Labels, family: Family, word: &[u8]) -> Found
     requires { ⌜ now labels ≡ labelTable ⌝ }
     ensures { λ r. ⌜ r ≡ foundAs (find (now (word .entry)) (labelsOf family)) ⌝ }
 {
@@ -218,7 +225,7 @@ fn likely(count: usize, second: u8) -> usize
 
 // The place of a keyword, in the table that the outermost caller lends. At most one row is compared: no two keywords have both their length
 // and their second letter in common.
-pub fn find_keyword(keys: &[u8; 240], word: &[u8]) -> Found
+pub fn find_keyword(keys: &Keywords, word: &[u8]) -> Found
     requires { ⌜ now keys ≡ keywordTable ⌝ }
     ensures { λ r. ⌜ r ≡ foundAs (find (now (word .entry)) keywords) ⌝ }
 {
@@ -233,18 +240,27 @@ pub fn find_keyword(keys: &[u8; 240], word: &[u8]) -> Found
     Found::Nothing
 }
 
-// The label of a mode, as a part of the table.
-pub fn mode_label(labels: &[u8; 608], family: Family, place: usize) -> &[u8]
+// No bytes of a table.
+fn no_label(table: &[u8]) -> &[u8]
+    ensures { λ r. ⌜ now r ≡ [] ⌝ }
+{
+    &table[..0]
+}
+
+// The label of a mode, as a part of the table; what is no place has no bytes.
+pub fn mode_label(labels: &Labels, family: Family, place: usize) -> &[u8]
     requires { ⌜ now labels ≡ labelTable ⌝ }
-    requires { ⌜ place < length (labelsOf family) ⌝ }
     ensures { λ r. ⌜ now r ≡ getD (labelsOf family) place [] ⌝ }
 {
     let rows = rows_of(family);
+    if rows.1 <= place {
+        return no_label(labels);
+    }
     label_at(labels, rows.0 + place)
 }
 
 // A keyword, as a part of the table.
-pub fn keyword_label(keys: &[u8; 240], place: usize) -> &[u8]
+pub fn keyword_label(keys: &Keywords, place: usize) -> &[u8]
     requires { ⌜ now keys ≡ keywordTable ⌝ }
     requires { ⌜ place < length keywords ⌝ }
     ensures { λ r. ⌜ now r ≡ getD keywords place [] ⌝ }

@@ -12,18 +12,16 @@ use lib.Seq.{take-suc-set, length-take-le}
 use Rattle.tokens.specs.Token.{Tokens, finish, bad, _▸_}
 use Rattle.reading.specs.Statement.{Item}
 use Rattle.forms.specs.declared.Name.{Name}
+use Rattle.forms.specs.declared.Kind.{Kind}
+use Rattle.forms.specs.declared.Kind.the-variants.{Word, Number}
 use Rattle.forms.specs.declared.Items.{Items}
-use Rattle.forms.specs.Items.{tokensFrom, nameIn, rest, entries, afterEntries, isEntry, listed, itemsIn}
+use Rattle.forms.specs.Items.{tokensFrom, kindAs, rest, entries, afterEntries, isEntry, listed, itemsIn}
 use Rattle.forms.proofs.Lists.{items-are}
 use Rattle.forms.specs.Fits.{InText, Listed}
 use Rattle.arguments.proofs.Entries.{entries-more, after-more}
-use Rattle.checks.specs.declared.Item as checked
-use Rattle.checks.specs.Answers.{kindOf, ItemHere}
-use Rattle.lists.specs.Lists.{pairOf}
-
--- an entry that was read again, as the definition has it
-abbrev pub entryAs : List ℕ → checked.Item → Item
-entryAs s r = record { kind = kindOf (r .number); name = nameIn s (r .name) }
+use Rattle.checks.specs.declared.Entry as checked
+use Rattle.checks.specs.Answers.{entryIn, EntryHere}
+use Rattle.lists.specs.Lists.{kindFor, itemFor}
 
 both : (a b : Bool) → (a && b) ≡ true → (a ≡ true) × (b ≡ true)
 both true b e = (refl, e)
@@ -60,32 +58,36 @@ map-append f (x ∷ xs) ys = ap (λ l. f x ∷ l) (map-append f xs ys)
 pub own-length : (s : List ℕ) (n : Name) → InText s n → length (take (n .length) (drop (n .offset) s)) ≡ n .length
 own-length s n h = length-take-le (n .length) (drop (n .offset) s) (simp length-drop (omega arith))
 
--- a name in the text is the pair of its own entry
-pub own-pair : (s : List ℕ) (r : checked.Item) → InText s (r .name) → pairOf (entryAs s r) ≡ r .name
-own-pair s r h = ap (λ (k : ℕ). record { offset = r .name .offset; length = k }) (own-length s (r .name) h)
+-- an entry is told by its kind and its name
+kind-own : (k : Kind) → kindFor (kindAs k) ≡ k
+kind-own Word = refl
+kind-own Number = refl
+
+pub own-item : (s : List ℕ) (r : checked.Entry) → InText s (r .name) → itemFor (entryIn s r) ≡ record { kind = r .kind; name = r .name }
+own-item s r h = rw (kind-own (r .kind), own-length s (r .name) h)
 
 -- So many entries of a list were read, and the next one stands at an offset.
 pub record Come (s : List ℕ) (is : Items) (i at : ℕ) : Type 0 where
-  pub here : afterEntries i (tokensFrom s (is .first)) ≡ tokensFrom s at
+  pub here : afterEntries i (tokensFrom s (is .first .at)) ≡ tokensFrom s at
   pub most : i ≤ is .count
 
 module _ (s : List ℕ) (is : Items) (i o : ℕ) (l : Listed s is) (g : Come s is i o) (h : i < is .count) where
   -- there is a next one
   pub next-stands : listed 1 (tokensFrom s o) ≡ true
-  next-stands = sym (ap (listed 1) (g .here)) ∙ next-listed i (is .count) (tokensFrom s (is .first)) (l .are) h
+  next-stands = sym (ap (listed 1) (g .here)) ∙ next-listed i (is .count) (tokensFrom s (is .first .at)) (l .are) h
 
-  module _ (r : checked.Item) (t : ItemHere s o r) where
+  module _ (r : checked.Entry) (t : EntryHere s o r) where
     -- it comes behind those that were read
-    pub next-entry : entries (i + 1) (tokensFrom s (is .first)) ≡ entries i (tokensFrom s (is .first)) ++ entryAs s r ∷ []
+    pub next-entry : entries (i + 1) (tokensFrom s (is .first .at)) ≡ entries i (tokensFrom s (is .first .at)) ++ entryIn s r ∷ []
     next-entry =
-        let T = tokensFrom s (is .first) in
+        let T = tokensFrom s (is .first .at) in
         ap (λ (k : ℕ). entries k T) (add-one i)
         ∙ entries-more i T (first-listed i (is .count) T (l .are) (g .most))
         ∙ ap (λ (ys : List Item). entries i T ++ ys) (ap (entries 1) (g .here) ∙ t .entry)
 
-    pub next-come : (p : ℕ) → rest (tokensFrom s (r .end)) ≡ tokensFrom s p → Come s is (i + 1) p
+    pub next-come : (p : ℕ) → rest (tokensFrom s (r .next .at)) ≡ tokensFrom s p → Come s is (i + 1) p
     next-come p e =
-        let T = tokensFrom s (is .first) in
+        let T = tokensFrom s (is .first .at) in
         record {
           here =
               ap (λ (k : ℕ). afterEntries k T) (add-one i)
@@ -97,29 +99,29 @@ module _ (s : List ℕ) (is : Items) (i o : ℕ) (l : Listed s is) (g : Come s i
         }
 
 -- the whole list was read
-pub come-last : (s : List ℕ) (is : Items) (i o : ℕ) → Listed s is → Come s is i o → is .count ≤ i → entries i (tokensFrom s (is .first)) ≡ itemsIn s is
+pub come-last : (s : List ℕ) (is : Items) (i o : ℕ) → Listed s is → Come s is i o → is .count ≤ i → entries i (tokensFrom s (is .first .at)) ≡ itemsIn s is
 come-last s is i o l g h =
     let e : i ≡ is .count = omega (arith, g .most) in
-    ap (λ (k : ℕ). entries k (tokensFrom s (is .first))) e ∙ sym (items-are s is l)
+    ap (λ (k : ℕ). entries k (tokensFrom s (is .first .at))) e ∙ sym (items-are s is l)
 
 -- What each entry that was read is taken for stands in the array.
 pub record Gone {A : Type 0} (f : Item → A) (s : List ℕ) (is : Items) (xs : List A) (i at : ℕ) : Type 0 where
   pub size : length xs ≡ 64
   pub come : Come s is i at
-  pub filled : take i xs ≡ map f (entries i (tokensFrom s (is .first)))
+  pub filled : take i xs ≡ map f (entries i (tokensFrom s (is .first .at)))
 
 -- one more
 pub one-more :
-    {A : Type 0} (f : Item → A) (s : List ℕ) (is : Items) (xs : List A) (i o p : ℕ) (r : checked.Item) (x : A)
+    {A : Type 0} (f : Item → A) (s : List ℕ) (is : Items) (xs : List A) (i o p : ℕ) (r : checked.Entry) (x : A)
     → Listed s is
     → Gone f s is xs i o
     → i < is .count
-    → ItemHere s o r
-    → rest (tokensFrom s (r .end)) ≡ tokensFrom s p
-    → f (entryAs s r) ≡ x
+    → EntryHere s o r
+    → rest (tokensFrom s (r .next .at)) ≡ tokensFrom s p
+    → f (entryIn s r) ≡ x
     → Gone f s is (set xs i x) (i + 1) p
 one-more {A} f s is xs i o p r x l g h t e q =
-    let T = tokensFrom s (is .first) in
+    let T = tokensFrom s (is .first .at) in
     record {
       size = length-set xs i x ∙ g .size;
       come = next-come s is i o l (g .come) h r t p e;
@@ -128,16 +130,16 @@ one-more {A} f s is xs i o p r x l g h t e q =
           ∙ take-suc-set xs i x (omega (arith, g .size, l .few))
           ∙ ap (λ (ns : List A). ns ++ x ∷ []) (g .filled)
           ∙ ap (λ (y : A). map f (entries i T) ++ y ∷ []) (sym q)
-          ∙ sym (map-append f (entries i T) (entryAs s r ∷ []))
+          ∙ sym (map-append f (entries i T) (entryIn s r ∷ []))
           ∙ ap (map f) (sym (next-entry s is i o l (g .come) h r t));
     }
 
 -- nothing read yet
-pub none-come : (s : List ℕ) (is : Items) → Come s is 0 (is .first)
+pub none-come : (s : List ℕ) (is : Items) → Come s is 0 (is .first .at)
 unfolding afterEntries
 none-come s is = record { here = refl; most = omega arith }
 
-pub none-gone : {A : Type 0} (f : Item → A) (s : List ℕ) (is : Items) (xs : List A) → length xs ≡ 64 → Gone f s is xs 0 (is .first)
+pub none-gone : {A : Type 0} (f : Item → A) (s : List ℕ) (is : Items) (xs : List A) → length xs ≡ 64 → Gone f s is xs 0 (is .first .at)
 unfolding entries
 none-gone f s is xs e = record { size = e; come = none-come s is; filled = refl }
 

@@ -1,4 +1,5 @@
 pub mod Statement
+pub mod Parts
 pub mod Answer
 pub mod Argument
 pub mod Feature

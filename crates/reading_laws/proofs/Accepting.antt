@@ -7,14 +7,14 @@ use mathlib.Core.Bool.{Bool, true, false, cond}
 use mathlib.Core.List.{List, _∷_}
 use borrow.Author.Tests.{leb-false, lt-leb}
 use lib.Dec.{leb}
-use Rattle.text.specs.Bytes.{bytes}
-use Rattle.tokens.specs.Token.{Shape, word, number, mark, Tokens, finish, bad, _▸_}
-use Rattle.labels.specs.Word.{sameWord}
+use Rattle.tokens.specs.Token.{Shape, Tokens, finish, bad, _▸_}
 use Rattle.reading.specs.Statement.{Statement}
 use Rattle.reading.specs.Answer.{Answer, accepted, refused, tooMany, unexpected}
-use Rattle.reading.specs.Syntax.{State, Step, more, made, stop, keyword, letKeyword, name, opened, turn}
+use Rattle.reading.specs.Syntax.{State, Step, more, made, stop, opened, turn}
 use Rattle.reading.specs.Read.{isSeparator, Where, between, ended, inside, prepend, onward, readFrom}
+use Rattle.reading_laws.specs.Turned.{Opened, noStatement, aKeyword, aLetKeyword}
 use Rattle.reading_laws.specs.Reads.{Reads, over, overEnded, passed, passedEnded, begun, carried, completed}
+use Rattle.reading_laws.proofs.Turning.{opening}
 
 -- an answer is no refusal, and has one value
 pub not-refused : {A : Type 0} {n p : ℕ} {a : A} → refused n p ≡ accepted a → ⊥
@@ -24,15 +24,10 @@ value-of : {A : Type 0} {a b : A} → accepted a ≡ accepted b → a ≡ b
 value-of e = cc
 
 -- a statement's first token never ends it
-opened-goes-on : (o : ℕ) (x : Shape) (s : Statement) → opened o x ≡ made s → ⊥
-unfolding opened
-opened-goes-on o (word w) s e = go (sameWord w (bytes "LET")) e
-  where
-    go : (t : Bool) → cond t (more letKeyword) (more (keyword (name o w))) ≡ made s → ⊥
-    go true e = let z : _≡_ {A = ℕ} 0 1 = cc in omega arith
-    go false e = let z : _≡_ {A = ℕ} 0 1 = cc in omega arith
-opened-goes-on o (number w) s e = let z : _≡_ {A = ℕ} 0 1 = cc in omega arith
-opened-goes-on o (mark m) s e = let z : _≡_ {A = ℕ} 0 1 = cc in omega arith
+opened-goes-on : {o : ℕ} {x : Shape} {y : Step} {s : Statement} → Opened o x y → y ≡ made s → ⊥
+opened-goes-on noStatement e = let z : _≡_ {A = ℕ} 0 1 = cc in omega arith
+opened-goes-on aKeyword e = let z : _≡_ {A = ℕ} 0 1 = cc in omega arith
+opened-goes-on (aLetKeyword l) e = let z : _≡_ {A = ℕ} 0 1 = cc in omega arith
 
 -- what an accepted answer starts with
 prepend-accepted :
@@ -71,7 +66,7 @@ accepted-reads limit size n between (t ▸ ts) ss e =
     go true b x p q r e f g = passed p (f e)
     go false true x p q r e f g = absurd (not-refused e)
     go false false (more s) p q r e f g = begun p (leb-false 256 n q) r (g s e)
-    go false false (made s) p q r e f g = absurd (opened-goes-on (t .place) (t .shape) s r)
+    go false false (made s) p q r e f g = absurd (opened-goes-on (opening (t .place) (t .shape)) r)
     go false false (stop k o) p q r e f g = absurd (not-refused e)
 accepted-reads limit size n ended (t ▸ ts) ss e =
     go (isSeparator (t .shape)) (leb 256 n) refl e (λ h. accepted-reads limit size n between ts ss h)

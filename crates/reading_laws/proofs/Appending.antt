@@ -17,7 +17,7 @@ use Rattle.reading_laws.specs.Reads.{Reads, over, overEnded, passed, pas
 use Rattle.reading_laws.proofs.Accepting.{accepted-reads, reads-accepted}
 
 -- what is read to its end, and a separator, leave the tokens after it to be read where a statement may start
-pub reads-append :
+reads-append :
     (limit size p : ℕ) (us : Tokens) {n : ℕ} {w : Where} {ts : Tokens} {ss : List Statement}
     → Reads limit n w ts ss
     → readFrom limit size n w (append ts (record { place = p; shape = separator } ▸ us))
@@ -46,7 +46,7 @@ inside-more (carried e r) = inside-more r
 inside-more (completed e r) = omega arith
 
 -- what is read after some statements is read after others, where the whole keeps within 256
-pub reads-after :
+reads-after :
     {limit n : ℕ} {w : Where} {ts : Tokens} {ss : List Statement} (m : ℕ) → Reads limit n w ts ss → m + length ss ≤ 256 → Reads limit m w ts ss
 reads-after m over h = over
 reads-after m overEnded h = overEnded

@@ -50,7 +50,7 @@ place-moved to (range o a b) = refl
 place-moved to (array o is) = refl
 
 -- a count is its spelling's, and a refusal is at its place
-pub count-at-moved : (to : ℕ → ℕ) (limit : ℕ) (n : Name) → Moves to same (countAt limit (moveName to n)) (countAt limit n)
+count-at-moved : (to : ℕ → ℕ) (limit : ℕ) (n : Name) → Moves to same (countAt limit (moveName to n)) (countAt limit n)
 unfolding countAt
 count-at-moved to limit n = go (countOf limit (n .spelling))
   where

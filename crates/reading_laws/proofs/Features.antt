@@ -109,7 +109,7 @@ n-alone-moved to none = stands refl
 n-alone-moved to (some b) = argument-falls to same b
 
 -- the counts of TRANSITS
-pub transits-moved :
+transits-moved :
     (to : ℕ → ℕ) (limit : ℕ) (a : Arg) (b : Option Arg)
     → Moves to same (transitsOf limit (moveArg to a) (Option·map (moveArg to) b)) (transitsOf limit a b)
 unfolding transitsOf
@@ -118,14 +118,14 @@ transits-moved to limit a b =
     (cond-moved (isN a) (n-alone-moved to b) (bind-moved _ (counts-moved to limit a) λ c. stands refl))
 
 -- the mandatory `*`
-pub explicit-moved : (to : ℕ → ℕ) (m : Bool) (a : Arg) (ms : Modes) → Moves to same (explicit m (moveArg to a) ms) (explicit m a ms)
+explicit-moved : (to : ℕ → ℕ) (m : Bool) (a : Arg) (ms : Modes) → Moves to same (explicit m (moveArg to a) ms) (explicit m a ms)
 unfolding explicit
 explicit-moved to true a ms = stands refl
 explicit-moved to false a allModes = argument-falls to same a
 explicit-moved to false a (modes ms) = stands refl
 
 -- an operator
-pub operator-moved : (to : ℕ → ℕ) (o : Option Arg) → Moves to same (operatorOf (Option·map (moveArg to) o)) (operatorOf o)
+operator-moved : (to : ℕ → ℕ) (o : Option Arg) → Moves to same (operatorOf (Option·map (moveArg to) o)) (operatorOf o)
 unfolding operatorOf
 operator-moved to none = stands refl
 operator-moved to (some (star o)) = stands refl
@@ -142,7 +142,7 @@ alone-moved to aNumber aWord n = falls
 alone-moved to aNumber aNumber n = stands refl
 
 -- a word, or a number, alone
-pub name-moved : (to : ℕ → ℕ) (k : Kind) (a : Arg) → Moves to (moveName to) (nameOf k (moveArg to a)) (nameOf k a)
+name-moved : (to : ℕ → ℕ) (k : Kind) (a : Arg) → Moves to (moveName to) (nameOf k (moveArg to a)) (nameOf k a)
 unfolding nameOf
 name-moved to k (star o) = falls
 name-moved to k (plus o) = falls
@@ -177,7 +177,7 @@ variability-moved to make k args e =
     stands (e ps es)
 
 -- A feature of moved arguments is the moved feature.
-pub feature-moved :
+feature-moved :
     (to : ℕ → ℕ) (limit : ℕ) (w : Keyword) (k : Name) (m : Bool) (args : List Arg)
     → Moves to (moveFeature to) (featureOf limit w (moveName to k) m (map (moveArg to) args)) (featureOf limit w k m args)
 unfolding featureOf

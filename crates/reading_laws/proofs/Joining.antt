@@ -6,7 +6,7 @@ use native.Mathlib.Omega.{arith}
 use mathlib.Core.Path.{_≡_, refl, _∙_, ap}
 use mathlib.Core.Bool.{Bool, true, false, cond}
 use mathlib.Core.List.{List, [], _∷_, _++_, map}
-use borrow.Author.Tests.{le-ltb}
+use borrow.Author.Tests.{ltb-false, le-ltb}
 use lib.Dec.{ltb}
 use lib.ListN.{length, length-map}
 use Rattle.tokens.specs.declared.Scanned.{Scanned}
@@ -19,27 +19,35 @@ use Rattle.reading.specs.Statement.{Statement}
 use Rattle.reading.specs.Answer.{accepted, tooLong}
 use Rattle.reading.specs.Read.{between, readFrom, readScanned, readText}
 use Rattle.reading_laws.specs.Raised.{raiseStatement, raiseRead}
-use Rattle.reading_laws.specs.Reads.{prependAll}
+use Rattle.reading_laws.specs.Reads.{Reads, prependAll}
 use Rattle.reading_laws.proofs.Raising.{reading-raised}
-use Rattle.reading_laws.proofs.Accepting.{not-refused}
+use Rattle.reading_laws.proofs.Accepting.{not-refused, accepted-reads}
 use Rattle.reading_laws.proofs.Scanning.{accepted-whole}
 use Rattle.reading_laws.proofs.Appending.{reading-appends, accepted-after}
 
--- an accepted text's tokens are accepted
-pub text-accepted :
-    (limit : ℕ) (text : List ℕ) (ss : List Statement)
-    → readText limit text ≡ accepted ss
-    → readFrom limit (length text) 0 between (tokens text) ≡ accepted ss
-unfolding readText
-text-accepted limit text ss e = go (ltb 16384 (length text)) (scanned (tokens text)) e
-  where
-    go :
-        (t : Bool) (s : Scanned)
-        → cond t tooLong (readScanned limit (length text) (tokens text) s) ≡ accepted ss
-        → readFrom limit (length text) 0 between (tokens text) ≡ accepted ss
-    go true s e = absurd (not-refused e)
-    go false Whole e = e
-    go false (Stray o) e = absurd (not-refused e)
+-- an accepted text is not too long, and its tokens are accepted
+module _ (limit : ℕ) (text : List ℕ) (ss : List Statement) (e : readText limit text ≡ accepted ss) where
+  short-and-accepted : (length text ≤ 16384) × (readFrom limit (length text) 0 between (tokens text) ≡ accepted ss)
+  unfolding readText
+  short-and-accepted = go (ltb 16384 (length text)) (scanned (tokens text)) refl e
+    where
+      go :
+          (t : Bool) (s : Scanned)
+          → ltb 16384 (length text) ≡ t
+          → cond t tooLong (readScanned limit (length text) (tokens text) s) ≡ accepted ss
+          → (length text ≤ 16384) × (readFrom limit (length text) 0 between (tokens text) ≡ accepted ss)
+      go true s h e = absurd (not-refused e)
+      go false Whole h e = (ltb-false 16384 (length text) h, e)
+      go false (Stray o) h e = absurd (not-refused e)
+
+  pub accepted-short : length text ≤ 16384
+  accepted-short = short-and-accepted .0
+
+  pub text-accepted : readFrom limit (length text) 0 between (tokens text) ≡ accepted ss
+  text-accepted = short-and-accepted .1
+
+  pub text-reads : Reads limit 0 between (tokens text) ss
+  text-reads = accepted-reads limit (length text) 0 between (tokens text) ss text-accepted
 
 -- a text that is not too long is accepted where its tokens are
 pub accepted-text :

@@ -13,7 +13,7 @@ use Rattle.reading_laws.specs.Reads.{Reads, over, overEnded, passed, pas
 use Rattle.reading_laws.proofs.Accepting.{accepted-reads}
 
 -- tokens that are read to their end have no byte among them that starts none
-pub reads-whole : {limit n : ℕ} {w : Where} {ts : Tokens} {ss : List Statement} → Reads limit n w ts ss → scanned ts ≡ Whole
+reads-whole : {limit n : ℕ} {w : Where} {ts : Tokens} {ss : List Statement} → Reads limit n w ts ss → scanned ts ≡ Whole
 unfolding scanned
 reads-whole over = refl
 reads-whole overEnded = refl

@@ -38,6 +38,7 @@ use Rattle.reading.specs.Statement.{
   Let,
   feature,
 }
+use Rattle.reading.specs.Parts.{featureParts}
 use Rattle.reading_laws.specs.WellFormed.{wellFormed}
 
 abbrev named : String → Name
@@ -87,9 +88,9 @@ broken =
     ∷ []
 
 pub all-well : all (wellFormed 64) well ≡ true
-unfolding labelsOf classOf numberRest fraction
+unfolding featureParts labelsOf classOf numberRest fraction
 all-well = refl
 
 pub all-broken : all (λ s. not (wellFormed 64 s)) broken ≡ true
-unfolding labelsOf classOf numberRest fraction
+unfolding featureParts labelsOf classOf numberRest fraction
 all-broken = refl

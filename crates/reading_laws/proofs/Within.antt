@@ -1,10 +1,10 @@
 -- A refusal's place is no further than the text's end. Reading does not compute with places, so it stays the same where places are cut to the
 -- text's size; and the places of tokens stay the same then.
 -- Assumes nothing.
-use Prim.Native.Nat.{ℕ, zero, suc, _+_, _≤_}
+use Prim.Native.Nat.{ℕ, _≤_}
 use mathlib.Core.Path.{_≡_, refl, _∙_, ap, sym, subst}
 use mathlib.Core.Bool.{Bool, true, false, cond}
-use mathlib.Core.List.{List, [], _∷_}
+use mathlib.Core.List.{List}
 use native.Mathlib.Nat.{le-refl}
 use native.Mathlib.Omega.{arith}
 use borrow.Author.Tests.{le-leb, leb-true}
@@ -12,13 +12,14 @@ use lib.Dec.{leb, ltb}
 use lib.ListN.{length}
 use Rattle.tokens.specs.declared.Scanned.{Scanned}
 use Rattle.tokens.specs.declared.Scanned.the-variants.{Whole, Stray}
-use Rattle.tokens.specs.Class.{classOf}
 use Rattle.tokens.specs.Token.{Tokens, finish, bad, _▸_}
-use Rattle.tokens.specs.Lex.{Front, skip, taken, wrong, frontOf, follow, tokensAfter, tokens}
+use Rattle.tokens.specs.Lex.{tokens}
 use Rattle.tokens.specs.Next.{scanned}
 use Rattle.reading.specs.Answer.{refused, tooLong}
 use Rattle.reading.specs.Read.{between, readFrom, readScanned, readText}
+use Rattle.reading_laws.specs.Laid.{Laid, finished, strayed, laid}
 use Rattle.reading_laws.specs.Moved.{moveRead, moveTokens}
+use Rattle.reading_laws.proofs.Laid.{tokens-laid}
 use Rattle.reading_laws.proofs.Moving.{reading-moved}
 
 -- a place, cut to a size
@@ -35,23 +36,11 @@ cut-most size p = go (leb p size) refl
     go true e = leb-true p size e
     go false e = le-refl size
 
--- the places of a text's tokens are not cut
-follow-cut :
-    (size : ℕ) (f : Front) (o : ℕ) (g : ℕ → Tokens)
-    → o ≤ size
-    → ((k : ℕ) → moveTokens (cut size) (g k) ≡ g k)
-    → moveTokens (cut size) (follow f o g) ≡ follow f o g
-unfolding follow
-follow-cut size (skip k) o g h e = e k
-follow-cut size (taken x k) o g h e = rw (cut-within size o h, e k)
-follow-cut size wrong o g h e = ap bad (cut-within size o h)
-
-tokens-cut : (size k o : ℕ) (l : List ℕ) → o + length l ≤ size → moveTokens (cut size) (tokensAfter k o l) ≡ tokensAfter k o l
-unfolding tokensAfter
-tokens-cut size k o [] h = refl
-tokens-cut size zero o (b ∷ bs) h =
-    follow-cut size (frontOf (classOf b) b bs) o (λ k. tokensAfter k (suc o) bs) (omega arith) (λ k. tokens-cut size k (suc o) bs (omega arith))
-tokens-cut size (suc k) o (b ∷ bs) h = tokens-cut size k (suc o) bs (omega arith)
+-- the places of tokens that stand in a text are not cut
+laid-cut : {text : List ℕ} {o : ℕ} {ts : Tokens} → Laid text o ts → moveTokens (cut (length text)) ts ≡ ts
+laid-cut finished = refl
+laid-cut {text} (strayed {p} h) = ap bad (cut-within (length text) p h)
+laid-cut {text} (laid {p} l h s r) = rw (cut-within (length text) p (omega (arith, h)), laid-cut r)
 
 -- what a scan and what reading answer is not cut either
 cutScan : ℕ → Scanned → Scanned
@@ -65,7 +54,7 @@ scan-cut size (bad o) = refl
 scan-cut size (t ▸ ts) = scan-cut size ts
 
 whole-tokens : (s : List ℕ) → moveTokens (cut (length s)) (tokens s) ≡ tokens s
-whole-tokens s = tokens-cut (length s) 0 0 s (omega arith)
+whole-tokens s = laid-cut (tokens-laid s)
 
 stray-within : (s : List ℕ) (o : ℕ) → scanned (tokens s) ≡ Stray o → o ≤ length s
 unfolding cutScan

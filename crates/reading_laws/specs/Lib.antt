@@ -2,3 +2,8 @@ pub mod Moved
 pub mod Raised
 pub mod Reads
 pub mod WellFormed
+pub mod Taken
+pub mod Turned
+pub mod Laid
+pub mod Spelled
+pub mod Among

@@ -30,6 +30,19 @@ use Rattle.reading.specs.Statement.{
   feature,
 }
 use Rattle.reading.specs.Statement as statement
+use Rattle.reading.specs.Parts.{
+  Part,
+  modesPart,
+  countsPart,
+  estimatedPart,
+  operandPart,
+  namePart,
+  valuesPart,
+  operatorPart,
+  omitted,
+  Parts,
+  taken,
+}
 use Rattle.reading.specs.Answer.{Answer, accepted, refused}
 use Rattle.reading.specs.Argument.{Arg, star, plus, symbol, single, range, array}
 use Rattle.reading.specs.Syntax.{
@@ -96,6 +109,21 @@ moveFeature to (Covariance m ls ps) = Covariance m ls (moveOperand to ps)
 abbrev pub moveStatement : (ℕ → ℕ) → Statement → Statement
 moveStatement to (Let n is) = Let (moveName to n) (map (moveItem to) is)
 moveStatement to (feature f) = feature (moveFeature to f)
+
+-- The parts of a statement.
+
+abbrev pub movePart : (ℕ → ℕ) → Part → Part
+movePart to (modesPart f ms) = modesPart f ms
+movePart to (countsPart c) = countsPart c
+movePart to estimatedPart = estimatedPart
+movePart to (operandPart p) = operandPart (moveOperand to p)
+movePart to (namePart n) = namePart (moveName to n)
+movePart to (valuesPart is) = valuesPart (map (moveItem to) is)
+movePart to (operatorPart op) = operatorPart op
+movePart to omitted = omitted
+
+abbrev pub moveParts : (ℕ → ℕ) → Parts → Parts
+moveParts to p = taken (p .keyword) (p .optional) (map (movePart to) (p .arguments))
 
 -- What is read of a statement before its end.
 

@@ -1,7 +1,6 @@
 -- What every statement is that a text is read as: its names are words or numbers, a list of it has one entry to 64, its modes are places in
--- their family, none twice, and its counts keep within the limit.
+-- their family, none twice, its counts keep within the limit, and its arguments stand together as its feature asks.
 use Prim.Native.Nat.{ℕ}
-use mathlib.Core.Path.{_≡_}
 use mathlib.Core.Bool.{Bool, true, false, not, _&&_}
 use mathlib.Core.List.{List, [], _∷_}
 use mathlib.Core.Option.{Option, some, none}
@@ -10,19 +9,6 @@ use lib.ListN.{length}
 use Rattle.tokens.specs.Spelling.{isWord, isNumber, isName}
 use Rattle.token_laws.specs.Shaped.{all}
 use Rattle.labels.specs.declared.Family.{Family}
-use Rattle.labels.specs.declared.Family.the-variants.{
-  AbsorptionMode,
-  EliminationMode,
-  PeripheralKind,
-  DepotMode,
-  LagtimeMode,
-  CovariateEffect,
-  PdMode,
-  ProductionMode,
-  MetaboliteMode,
-  VariabilityEffect,
-  VariabilityLevel,
-}
 use Rattle.labels.specs.Label.{labelsOf}
 use Rattle.reading.specs.Statement.{
   Name,
@@ -62,6 +48,19 @@ use Rattle.reading.specs.Statement.{
   feature,
 }
 use Rattle.reading.specs.Statement as statement
+use Rattle.reading.specs.Parts.{
+  Part,
+  modesPart,
+  countsPart,
+  estimatedPart,
+  operandPart,
+  namePart,
+  valuesPart,
+  operatorPart,
+  omitted,
+  Parts,
+  featureParts,
+}
 use Rattle.reading.specs.Answer.{Answer, accepted, refused}
 use Rattle.reading.specs.Argument.{Arg, star, plus, symbol, single, range, array}
 use Rattle.reading.specs.Syntax.{
@@ -82,10 +81,6 @@ use Rattle.reading.specs.Syntax.{
   item,
   itemRead,
   argumentRead,
-  Step,
-  more,
-  made,
-  stop,
 }
 use Rattle.reading.specs.Read.{Where, between, ended, inside}
 
@@ -144,32 +139,49 @@ abbrev pub optional : {A : Type 0} → (A → Bool) → Option A → Bool
 optional p none = true
 optional p (some x) = p x
 
--- the N of TRANSITS stands alone
-abbrev pub wellTransits : ℕ → TransitCounts → Option Modes → Bool
-wellTransits limit estimated none = true
-wellTransits limit estimated (some ms) = false
-wellTransits limit (counted c) ms = wellCounts limit c && optional (wellModes DepotMode) ms
+abbrev pub wellPart : ℕ → Part → Bool
+wellPart limit (modesPart f ms) = wellModes f ms
+wellPart limit (countsPart c) = wellCounts limit c
+wellPart limit estimatedPart = true
+wellPart limit (operandPart p) = wellOperand p
+wellPart limit (namePart n) = wellNamed n
+wellPart limit (valuesPart is) = oneTo64 wellItem is
+wellPart limit (operatorPart op) = true
+wellPart limit omitted = true
 
--- the effects of a COVARIATE, which are `*` only after a `?`
+-- the N of TRANSITS stands alone
+abbrev pub wellTransits : TransitCounts → Option Modes → Bool
+wellTransits estimated none = true
+wellTransits estimated (some ms) = false
+wellTransits (counted c) ms = true
+
+-- the effects of a COVARIATE are `*` only after a `?`
 abbrev pub wellEffects : Bool → Modes → Bool
 wellEffects m allModes = m
-wellEffects m (modes ms) = wellModes CovariateEffect (modes ms)
+wellEffects m (modes ms) = true
+
+-- what a feature asks of its arguments besides
+abbrev pub wellTogether : Feature → Bool
+wellTogether (Absorption ms) = true
+wellTogether (Elimination ms) = true
+wellTogether (Peripherals c ms) = true
+wellTogether (Transits c ms) = wellTransits c ms
+wellTogether (Lagtime ms) = true
+wellTogether (Covariate m ps cs es op) = wellEffects m es
+wellTogether (Allometry n r) = spelledAs aWord n && optional (spelledAs aNumber) r
+wellTogether (DirectEffect ms) = true
+wellTogether (EffectComp ms) = true
+wellTogether (IndirectEffect ms ps) = true
+wellTogether (Metabolite ms) = true
+wellTogether (Iiv m ps es) = true
+wellTogether (Iov m ps es) = true
+wellTogether (Covariance m ls ps) = true
+
+abbrev pub wellParts : ℕ → Parts → Bool
+wellParts limit p = all (wellPart limit) (p .arguments)
 
 abbrev pub wellFeature : ℕ → Feature → Bool
-wellFeature limit (Absorption ms) = wellModes AbsorptionMode ms
-wellFeature limit (Elimination ms) = wellModes EliminationMode ms
-wellFeature limit (Peripherals c ms) = wellCounts limit c && optional (wellModes PeripheralKind) ms
-wellFeature limit (Transits c ms) = wellTransits limit c ms
-wellFeature limit (Lagtime ms) = wellModes LagtimeMode ms
-wellFeature limit (Covariate m ps cs es op) = wellOperand ps && wellOperand cs && wellEffects m es
-wellFeature limit (Allometry n r) = spelledAs aWord n && optional (spelledAs aNumber) r
-wellFeature limit (DirectEffect ms) = wellModes PdMode ms
-wellFeature limit (EffectComp ms) = wellModes PdMode ms
-wellFeature limit (IndirectEffect ms ps) = wellModes PdMode ms && wellModes ProductionMode ps
-wellFeature limit (Metabolite ms) = wellModes MetaboliteMode ms
-wellFeature limit (Iiv m ps es) = wellOperand ps && wellModes VariabilityEffect es
-wellFeature limit (Iov m ps es) = wellOperand ps && wellModes VariabilityEffect es
-wellFeature limit (Covariance m ls ps) = wellModes VariabilityLevel ls && wellOperand ps
+wellFeature limit f = wellParts limit (featureParts f) && wellTogether f
 
 abbrev pub wellFormed : ℕ → Statement → Bool
 wellFormed limit (Let n is) = isWord (n .spelling) && oneTo64 wellItem is
@@ -209,15 +221,9 @@ wellWhere limit between = true
 wellWhere limit ended = true
 wellWhere limit (inside s) = wellState limit s
 
--- Answers and steps.
+-- Answers.
 
 -- a value that is accepted is as said
 pub data Gives {A : Type 0} (P : A → Type 0) : Answer A → Type 0 where
   given : {a : A} → P a → Gives P (accepted a)
   nothing : {n p : ℕ} → Gives P (refused n p)
-
--- what a token makes is well formed: so much of a statement, or the whole of it
-pub data Keeps (limit : ℕ) : Step → Type 0 where
-  goes : {s : State} → wellState limit s ≡ true → Keeps limit (more s)
-  makes : {x : Statement} → wellFormed limit x ≡ true → Keeps limit (made x)
-  halts : {n p : ℕ} → Keeps limit (stop n p)

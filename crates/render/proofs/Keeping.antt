@@ -23,8 +23,9 @@ use Rattle.canonical_laws.proofs.Shorter.{not-longer}
 use Rattle.forms.specs.declared.Statement as form
 use Rattle.forms.specs.Forms.{statementIn}
 use Rattle.statements.specs.Answers.{readAt, FirstFault}
-use Rattle.values.specs.Lists.{statementLists, Readable}
-use Rattle.values.proofs.Readable.{statement-readable}
+use Rattle.parts.specs.Apart.{apart}
+use Rattle.parts.specs.Meaning.{PartsFit}
+use Rattle.parts.proofs.Fitting.{statement-fits}
 use Rattle.writing.specs.Written.{Room, Written}
 use Rattle.writing.proofs.Going.{Going, going, told, further, no-more, room-first}
 use Rattle.forms.specs.declared.Refusal.{Refusal}
@@ -131,8 +132,8 @@ module _ {limit : ℕ} {s before now : List ℕ} {forms : List form.Statement} {
         (pieceOf i (statementIn s this) ++ restOf (suc i) (map (statementIn s) (slice (suc i) n forms)))
     gone-left = told (ap (restOf i) left) (g .gone)
 
-    pub this-readable : Readable s (statementLists (getD forms i d))
-    this-readable = statement-readable s limit this (and-left (wellFormed limit (statementIn s this)) _ well-left)
+    pub this-fits : PartsFit s (apart (getD forms i d))
+    this-fits = statement-fits limit s this (and-left (wellFormed limit (statementIn s this)) _ well-left)
 
     pub this-room : Room at (pieceOf i (statementIn s (getD forms i d)))
     this-room = room-first (pieceOf i (statementIn s this)) _ (canonical-short limit s (firstOnes s n forms) (g .read)) gone-left

@@ -26,8 +26,9 @@ use Rattle.forms.specs.declared.Statement as form
 use Rattle.forms.specs.Forms.{statementIn}
 use Rattle.statements.specs.Answers.{readAt}
 use Rattle.statements.proofs.Indexes.{in-front}
-use Rattle.values.specs.Lists.{statementLists, Readable}
-use Rattle.values.proofs.Readable.{statement-readable}
+use Rattle.parts.specs.Apart.{apart}
+use Rattle.parts.specs.Meaning.{PartsFit}
+use Rattle.parts.proofs.Fitting.{statement-fits}
 use Rattle.writing.specs.Written.{Room, Written}
 use Rattle.writing.proofs.Going.{Going, going, told, further, no-more, room-first}
 use Rattle.render.specs.Text.{Accepted, pieceOf, Prints}
@@ -86,8 +87,8 @@ module _ {limit : ℕ} {s before now : List ℕ} {n cur at : ℕ} (g : Sofar lim
       gone-more : Going before 0 (canonical (g .statements)) now at (pieceOf n (statementIn s f) ++ restOf (suc n) (rest .0))
       gone-more = told (ap (restOf n) (rest .2)) (g .gone)
 
-      pub next-readable : Readable s (statementLists f)
-      next-readable = statement-readable s limit f (and-left (wellFormed limit (statementIn s f)) _ well-more)
+      pub next-fits : PartsFit s (apart f)
+      next-fits = statement-fits limit s f (and-left (wellFormed limit (statementIn s f)) _ well-more)
 
       pub next-room : Room at (pieceOf n (statementIn s f))
       next-room = room-first (pieceOf n (statementIn s f)) (restOf (suc n) (rest .0)) (canonical-short limit s (g .statements) (g .read)) gone-more

@@ -6,7 +6,7 @@ use Prim.Native.Nat.{ℕ, zero, suc}
 use Rattle.tokens.specs.Spelling.{spellAll}
 use Rattle.reading.specs.Statement.{Statement}
 use Rattle.canonical.specs.Canonical.{sign, statementShapes, textShapes, canonical}
-use Rattle.printing.proofs.Bytes.{spell-append}
+use Rattle.part_text.proofs.Bytes.{spell-append}
 use Rattle.render.specs.Text.{jointOf, pieceOf}
 
 -- what is left to be printed after so many statements

@@ -6,7 +6,8 @@ ghost use Rattle.tokens.specs.Class.{classTable};
 ghost use Rattle.labels.specs.Table.{labelTable, keywordTable};
 ghost use Rattle.forms.specs.Forms.{statementIn};
 ghost use Rattle.canonical.specs.Print.{lengthOf, printText, fitting, output};
-ghost use Rattle.values.specs.Lists.{statementLists, Readable};
+ghost use Rattle.parts.specs.Apart.{apart};
+ghost use Rattle.parts.specs.Meaning.{PartsFit};
 ghost use Rattle.writing.specs.Written.{Room, Written};
 ghost use Rattle.render.specs.Text.{Accepted, pieceOf, jointOf, Prints, printedAs, Answers, KeptAs};
 use forms::Items;
@@ -15,6 +16,7 @@ use forms::Refusal;
 use forms::Statement;
 use statements::CountRead;
 use statements::NextRead;
+use tokens::Cursor;
 
 // How many bytes the canonical text has, or why there is none.
 pub enum Printed {
@@ -44,12 +46,12 @@ fn put_next(
     out: &mut [u8],
     at: usize,
 ) -> usize
-    requires { ⌜ (now classes ≡ classTable) × (now labels ≡ labelTable) × (now keys ≡ keywordTable) × Readable (now text) (statementLists statement)
+    requires { ⌜ (now classes ≡ classTable) × (now labels ≡ labelTable) × (now keys ≡ keywordTable) × PartsFit (now text) (apart statement)
         × Room at (pieceOf n (statementIn (now text) statement)) ⌝ }
     ensures { λ r. ⌜ Written (now (out .entry)) at (pieceOf n (statementIn (now (text .entry)) statement)) (now (out .exit)) r ⌝ }
 {
     let next = put_joint(n, out, at);
-    printed::put_statement(text, classes, labels, keys, statement, out, next)
+    statement_text::put_statement(text, classes, labels, keys, statement, out, next)
 }
 
 // The canonical text of a text that is accepted, as far as the buffer has room, and its length.
@@ -65,13 +67,13 @@ fn put_text(
     ensures { λ r. ⌜ Prints limit (now (text .entry)) (now (out .entry)) (now (out .exit)) r ⌝ }
 {
     let mut n = 0;
-    let mut cur = 0;
+    let mut cur = Cursor::new();
     let mut at = 0;
     loop {
         match statements::next_statement(text, classes, labels, keys, cur, n, limit) {
             NextRead::Statement(form, next) => {
                 at = put_next(text, classes, labels, keys, n, form, out, at);
-                cur = next.at;
+                cur = next;
                 n += 1;
             }
             NextRead::End => return at,
@@ -121,7 +123,10 @@ fn no_form() -> Statement {
             offset: 0,
             length: 0,
         },
-        values: Items { first: 0, count: 0 },
+        values: Items {
+            first: Cursor::new(),
+            count: 0,
+        },
     }
 }
 
@@ -153,7 +158,7 @@ fn print_few(
 {
     let mut forms = few_forms();
     let mut n = 0;
-    let mut cur = 0;
+    let mut cur = Cursor::new();
     loop {
         match statements::next_statement(text, classes, labels, keys, cur, n, limit) {
             NextRead::Statement(form, after) => {
@@ -161,7 +166,7 @@ fn print_few(
                     return Kept::More;
                 }
                 forms[n] = form;
-                cur = after.at;
+                cur = after;
                 n += 1;
             }
             NextRead::End => break,
@@ -193,7 +198,7 @@ fn print_many(
 {
     let mut forms = many_forms();
     let mut count = 0;
-    let mut cur = 0;
+    let mut cur = Cursor::new();
     loop {
         match statements::next_statement(text, classes, labels, keys, cur, count, limit) {
             NextRead::Statement(form, after) => {
@@ -201,7 +206,7 @@ fn print_many(
                     return Kept::More;
                 }
                 forms[count] = form;
-                cur = after.at;
+                cur = after;
                 count += 1;
             }
             NextRead::End => break,

@@ -1,6 +1,5 @@
 // Lines of standard input, which come in pieces.
-use crate::output;
-use crate::request;
+use lines::output;
 ghost use Rattle.io.specs.Counts.{Counts};
 
 // How many bytes of the line are there, and how many bytes of output are waiting. A line that does not fit is one longer than its buffer.
@@ -14,7 +13,7 @@ fn answer_line(line: &[u8], text: &mut [u8], out: &mut [u8], used: usize, len: u
         return output::put_all(out, len, b"malformed: a line too long\n");
     }
     let n = output::within(used, line);
-    request::answer(&line[..n], text, out, len)
+    requests::answer(&line[..n], text, out, len)
 }
 
 // Any byte but a newline is kept where there is room.
@@ -57,31 +56,38 @@ fn read_some(chunk: &mut [u8]) -> usize
     io::count(got, chunk)
 }
 
+// The lines that end in what came are answered before more input is waited for.
+fn take_some(chunk: &[u8], line: &mut [u8], text: &mut [u8], out: &mut [u8], used: usize) -> usize {
+    let held = take_all(chunk, line, text, out, Held { used, len: 0 });
+    output::flush(out, held.len);
+    held.used
+}
+
 // A proved loop has to end, and nothing says that an input does. So the loop counts its turns down, from a number that no run uses up.
-fn take_input(chunk: &mut [u8], line: &mut [u8], text: &mut [u8], out: &mut [u8]) -> Held {
-    let mut held = Held { used: 0, len: 0 };
+fn take_input(chunk: &mut [u8], line: &mut [u8], text: &mut [u8], out: &mut [u8]) -> usize {
+    let mut used = 0;
     let mut turns = u64::MAX;
     while 0 < turns {
         let n = read_some(chunk);
         if n == 0 {
-            return held;
+            return used;
         }
-        held = take_all(&chunk[..n], line, text, out, held);
+        used = take_some(&chunk[..n], line, text, out, used);
         turns -= 1;
     }
-    held
+    used
 }
 
 // What is left at the input's end is a line too.
-fn last_line(line: &[u8], text: &mut [u8], out: &mut [u8], held: Held) -> usize {
-    if held.used == 0 {
-        return held.len;
+fn last_line(line: &[u8], text: &mut [u8], out: &mut [u8], used: usize) -> usize {
+    if used == 0 {
+        return 0;
     }
-    answer_line(line, text, out, held.used, held.len)
+    answer_line(line, text, out, used, 0)
 }
 
 pub fn answer_all(chunk: &mut [u8], line: &mut [u8], text: &mut [u8], out: &mut [u8]) {
-    let held = take_input(chunk, line, text, out);
-    let len = last_line(line, text, out, held);
+    let used = take_input(chunk, line, text, out);
+    let len = last_line(line, text, out, used);
     output::flush(out, len);
 }

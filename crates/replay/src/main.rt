@@ -1,8 +1,6 @@
-// Answers request lines from standard input, one line each: `tokens HEX`, `count HEX`, `statement INDEX HEX` and `print HEX`. A line that is no request is answered too, and stops nothing.
-mod form;
+// Answers request lines from standard input, one line each, before it waits for more: `tokens HEX`, `count HEX`, `statement INDEX HEX`, `print HEX`
+// and `print HEX N`. A line that is no request is answered too, and stops nothing.
 mod input;
-mod output;
-mod request;
 
 fn main() {
     let mut chunk = io::large_buffer();

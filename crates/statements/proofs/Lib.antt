@@ -1,3 +1,4 @@
 pub mod Whole
 pub mod Texts
 pub mod Indexes
+pub mod Found

@@ -113,18 +113,18 @@ module _ (limit : ℕ) (s : List ℕ) (n o : ℕ) (t : lexer.Token) where
   at-finish e = ap (readFrom limit (length s) n between) e
 
   pub ended-finish :
-      tokensFrom s o ≡ finish → t .start ≡ length s → readAt limit s n Where.ended o ≡ readAt limit s n between (t .start)
+      tokensFrom s o ≡ finish → t .next .at ≡ length s → readAt limit s n Where.ended o ≡ readAt limit s n between (t .next .at)
   unfolding readFrom
   ended-finish e l =
-      ap (readFrom limit (length s) n Where.ended) e ∙ sym (ap (readFrom limit (length s) n between) (at-end s (t .start) (omega arith)))
+      ap (readFrom limit (length s) n Where.ended) e ∙ sym (ap (readFrom limit (length s) n between) (at-end s (t .next .at) (omega arith)))
 
--- the text's end stands at its length
-pub ends-at : {s : List ℕ} {o : ℕ} {t : lexer.Token} → Known s o t → t .kind ≡ 3 → t .start ≡ length s
+-- the cursor behind the text's end stands at its length
+pub ends-at : {s : List ℕ} {o : ℕ} {t : lexer.Token} → Known s o t → t .kind ≡ 3 → t .next .at ≡ length s
 ends-at (aWord e r) k = absurd (omega arith)
 ends-at (aNumber e r) k = absurd (omega arith)
 ends-at (aMark e r) k = absurd (omega arith)
 ends-at (aStray e r q) k = absurd (omega arith)
-ends-at (theEnd e r l q) k = l
+ends-at (theEnd e r l q) k = q
 
 -- one statement more is one more to count
 pub counted-more : (n : ℕ) (s : Statement) (a : Answer (List Statement)) → counted n (prepend s a) ≡ counted (suc n) a

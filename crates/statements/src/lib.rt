@@ -14,8 +14,8 @@ ghost use Rattle.forms.specs.Items.{nameIn};
 ghost use Rattle.forms.specs.Fits.{InText};
 ghost use Rattle.arguments.specs.Answers.{readIn, stepIn};
 ghost use Rattle.statements.specs.Answers.{statementThen, StatementFurther, FirstToken, EndedThen, EndedFurther, crowdedBy, readAt, nextThen, NextFurther, FirstFault, counted, countAs, indexed, nthAs, nthOf, statementAs};
-use calls::FeatureRead;
-use calls::LetRead;
+use syntax::FeatureRead;
+use syntax::LetRead;
 use checks::ItemsRead;
 use features::Built;
 use forms::Items;
@@ -75,12 +75,12 @@ fn is_let(text: &[u8], name: Name) -> bool
 }
 
 // A LET behind its keyword.
-fn let_statement(text: &[u8], classes: &[u8; 256], at: usize, limit: u32) -> StatementRead
+fn let_statement(text: &[u8], classes: &[u8; 256], cur: Cursor, limit: u32) -> StatementRead
     requires { ⌜ now classes ≡ classTable ⌝ }
-    ensures { λ r. ⌜ readIn limit (now (text .entry)) letKeyword at ≡ statementThen (now (text .entry)) r ⌝ }
-    ensures { λ r. ⌜ StatementFurther (now (text .entry)) at r ⌝ }
+    ensures { λ r. ⌜ readIn limit (now (text .entry)) letKeyword (cur .at) ≡ statementThen (now (text .entry)) r ⌝ }
+    ensures { λ r. ⌜ StatementFurther (now (text .entry)) (cur .at) r ⌝ }
 {
-    match calls::read_let(text, classes, at, limit) {
+    match syntax::read_let(text, classes, cur, limit) {
         LetRead::Let { name, arg, next } => match checks::items_of(arg) {
             ItemsRead::Items(values) => StatementRead::Statement(
                 Statement::Let { name, values },
@@ -99,14 +99,14 @@ fn feature_statement(
     labels: &[u8; 608],
     keys: &[u8; 240],
     name: Name,
-    at: usize,
+    cur: Cursor,
     limit: u32,
 ) -> StatementRead
     requires { ⌜ (now classes ≡ classTable) × (now labels ≡ labelTable) × (now keys ≡ keywordTable) × InText (now text) name ⌝ }
-    ensures { λ r. ⌜ readIn limit (now (text .entry)) (keyword (nameIn (now (text .entry)) name)) at ≡ statementThen (now (text .entry)) r ⌝ }
-    ensures { λ r. ⌜ StatementFurther (now (text .entry)) at r ⌝ }
+    ensures { λ r. ⌜ readIn limit (now (text .entry)) (keyword (nameIn (now (text .entry)) name)) (cur .at) ≡ statementThen (now (text .entry)) r ⌝ }
+    ensures { λ r. ⌜ StatementFurther (now (text .entry)) (cur .at) r ⌝ }
 {
-    match calls::read_feature(text, classes, at, limit) {
+    match syntax::read_feature(text, classes, cur, limit) {
         FeatureRead::Call {
             optional,
             args,
@@ -126,54 +126,51 @@ fn statement(
     labels: &[u8; 608],
     keys: &[u8; 240],
     name: Name,
-    at: usize,
+    cur: Cursor,
     limit: u32,
 ) -> StatementRead
     requires { ⌜ (now classes ≡ classTable) × (now labels ≡ labelTable) × (now keys ≡ keywordTable) × InText (now text) name ⌝ }
     ensures { λ r. ⌜
-        stepIn limit (now (text .entry)) (opened (name .offset) (word (nameIn (now (text .entry)) name .spelling))) at
+        stepIn limit (now (text .entry)) (opened (name .offset) (word (nameIn (now (text .entry)) name .spelling))) (cur .at)
         ≡ statementThen (now (text .entry)) r
         ⌝ }
-    ensures { λ r. ⌜ StatementFurther (now (text .entry)) at r ⌝ }
+    ensures { λ r. ⌜ StatementFurther (now (text .entry)) (cur .at) r ⌝ }
 {
     if is_let(text, name) {
-        return let_statement(text, classes, at, limit);
+        return let_statement(text, classes, cur, limit);
     }
-    feature_statement(text, classes, labels, keys, name, at, limit)
+    feature_statement(text, classes, labels, keys, name, cur, limit)
 }
 
-// The first token, from `at` on, that is no separator. Blanks and comments stand here more often than anywhere else.
-fn first_token(text: &[u8], classes: &[u8; 256], at: usize) -> Token
+// The first token, from the cursor on, that is no separator. Blanks and comments stand here more often than anywhere else.
+fn first_token(text: &[u8], classes: &[u8; 256], cur: Cursor) -> Token
     requires { ⌜ now classes ≡ classTable ⌝ }
-    ensures { λ r. ⌜ FirstToken (now (text .entry)) at r ⌝ }
+    ensures { λ r. ⌜ FirstToken (now (text .entry)) (cur .at) r ⌝ }
 {
-    let mut cur = at;
+    let mut from = cur;
     loop {
-        let c = Cursor { at: cur };
-        let token = c.token_after_blanks(text, classes);
+        let token = from.token_after_blanks(text, classes);
         if token.kind != b';' {
             return token;
         }
-        let next = token.next;
-        cur = next.at;
+        from = token.next;
     }
 }
 
 // What stands behind the statement that is the `n`th: a separator, or the text's end. It is passed, with the blanks and the comment before
 // it, so that the next statement is not sought through them again.
-fn behind(text: &[u8], classes: &[u8; 256], at: usize, n: usize) -> Ended
+fn behind(text: &[u8], classes: &[u8; 256], cur: Cursor, n: usize) -> Ended
     requires { ⌜ now classes ≡ classTable ⌝ }
-    ensures { λ r. ⌜ ((limit : ℕ) → EndedThen limit (now (text .entry)) n at r) ⌝ }
-    ensures { λ r. ⌜ EndedFurther (now (text .entry)) at r ⌝ }
+    ensures { λ r. ⌜ ((limit : ℕ) → EndedThen limit (now (text .entry)) n (cur .at) r) ⌝ }
+    ensures { λ r. ⌜ EndedFurther (now (text .entry)) (cur .at) r ⌝ }
 {
-    let c = Cursor { at };
-    let token = c.token(text, classes);
+    let token = cur.token(text, classes);
     let next = token.next;
     if token.kind == b';' {
         return Ended::Fine(next);
     }
     if token.kind == 3 {
-        return Ended::Fine(Cursor { at: token.start });
+        return Ended::Fine(next);
     }
     Ended::Refused(crowded(token, n))
 }
@@ -206,15 +203,15 @@ pub fn next_statement(
     classes: &[u8; 256],
     labels: &[u8; 608],
     keys: &[u8; 240],
-    at: usize,
+    cur: Cursor,
     n: usize,
     limit: u32,
 ) -> NextRead
-    requires { ⌜ (now classes ≡ classTable) × (now labels ≡ labelTable) × (now keys ≡ keywordTable) × (n ≤ at) ⌝ }
-    ensures { λ r. ⌜ readAt limit (now (text .entry)) n between at ≡ nextThen limit (now (text .entry)) n r ⌝ }
-    ensures { λ r. ⌜ NextFurther (now (text .entry)) at r ⌝ }
+    requires { ⌜ (now classes ≡ classTable) × (now labels ≡ labelTable) × (now keys ≡ keywordTable) × (n ≤ cur .at) ⌝ }
+    ensures { λ r. ⌜ readAt limit (now (text .entry)) n between (cur .at) ≡ nextThen limit (now (text .entry)) n r ⌝ }
+    ensures { λ r. ⌜ NextFurther (now (text .entry)) (cur .at) r ⌝ }
 {
-    let token = first_token(text, classes, at);
+    let token = first_token(text, classes, cur);
     if token.kind == 3 {
         return NextRead::End;
     }
@@ -226,8 +223,8 @@ pub fn next_statement(
     }
     let next = token.next;
     let name = arguments::named(token);
-    match statement(text, classes, labels, keys, name, next.at, limit) {
-        StatementRead::Statement(form, c) => match behind(text, classes, c.at, n + 1) {
+    match statement(text, classes, labels, keys, name, next, limit) {
+        StatementRead::Statement(form, c) => match behind(text, classes, c, n + 1) {
             Ended::Fine(d) => NextRead::Statement(form, d),
             Ended::Refused(r) => NextRead::Refused(r),
         },
@@ -247,11 +244,11 @@ fn count_from(
     ensures { λ r. ⌜ countAs r ≡ counted 0 (readAt limit (now (text .entry)) 0 between 0) ⌝ }
 {
     let mut n = 0;
-    let mut cur = 0;
+    let mut cur = Cursor::new();
     loop {
         match next_statement(text, classes, labels, keys, cur, n, limit) {
             NextRead::Statement(_, c) => {
-                cur = c.at;
+                cur = c;
                 n += 1;
             }
             NextRead::End => return CountRead::Count(n),
@@ -314,13 +311,16 @@ fn nth(
     ensures { λ r. ⌜ nthAs (now (text .entry)) r ≡ indexed index (readAt limit (now (text .entry)) 0 between 0) ⌝ }
 {
     let mut n = 0;
-    let mut cur = 0;
+    let mut cur = Cursor::new();
     let mut kept = Statement::Let {
         name: Name {
             offset: 0,
             length: 0,
         },
-        values: Items { first: 0, count: 0 },
+        values: Items {
+            first: cur,
+            count: 0,
+        },
     };
     loop {
         match next_statement(text, classes, labels, keys, cur, n, limit) {
@@ -328,7 +328,7 @@ fn nth(
                 if n == index {
                     kept = form;
                 }
-                cur = next.at;
+                cur = next;
                 n += 1;
             }
             NextRead::End => {

@@ -1,5 +1,5 @@
 -- Texts as lists of bytes, and tests of one byte.
-use Prim.Native.Nat.{ℕ, suc}
+use Prim.Native.Nat.{ℕ, zero, suc}
 use Prim.Native.Char.{Char, code}
 use Prim.Native.String.{String, [] as none, _∷_ as _then_}
 use mathlib.Core.Bool.{Bool, true, false, cond, _&&_, _||_}
@@ -37,3 +37,8 @@ span p (b ∷ bs) = cond (p b) (suc (span p bs)) 0
 abbrev pub every : (ℕ → Bool) → List ℕ → Bool
 every p [] = true
 every p (b ∷ bs) = p b && every p bs
+
+-- the numbers from one on, as many as the second says
+abbrev pub countUp : ℕ → ℕ → List ℕ
+countUp i zero = []
+countUp i (suc n) = i ∷ countUp (suc i) n

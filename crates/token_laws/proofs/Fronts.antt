@@ -1,7 +1,7 @@
 -- What stands at a byte, in a text with more behind it: runs, numbers and tokens are the same where the rest does not go on with them.
 -- Assumes nothing.
 use mathlib.Core.Path.{_≡_, refl, ap}
-use mathlib.Core.Bool.{Bool, true, false, cond, and-false, _&&_}
+use mathlib.Core.Bool.{Bool, false, cond, and-false, _&&_}
 use mathlib.Core.List.{List, [], _∷_, _++_}
 use Prim.Native.Nat.{ℕ, suc, _+_, _≤_}
 use native.Mathlib.Omega.{arith}
@@ -9,10 +9,10 @@ use lib.ListN.{length, drop}
 use lib.Seq.{drop-append-le}
 use Rattle.text.specs.Bytes.{span}
 use Rattle.tokens.specs.Class.{Class, newline, semicolon, mark, dot, blank, hash, other, hyphen, digit, letter, isA}
-use Rattle.tokens.specs.Token.{range}
-use Rattle.tokens.specs.Lex.{Front, skip, taken, wrong, inWord, inNumber, inComment, fraction, numberRest, dots, frontOf}
+use Rattle.tokens.specs.Lex.{Front, skip, taken, wrong, inWord, inNumber, inComment, fraction, numberRest, frontOf}
 use Rattle.tokens.proofs.Runs.{span-most}
 use Rattle.tokens.proofs.Numbers.{number-most}
+use Rattle.tokens.proofs.Steps.{dots-case}
 use Rattle.token_laws.specs.Follow.{startsWith, moreNumber}
 use Rattle.token_laws.proofs.Tests.{or-left, or-right}
 
@@ -52,22 +52,13 @@ reach (skip k) = k
 reach (taken s k) = k
 reach wrong = 0
 
-dots-within : (bs : List ℕ) → reach (dots bs) ≤ length bs
-unfolding dots
-dots-within [] = omega arith
-dots-within (d ∷ ds) = go (isA dot d)
-  where
-    go : (t : Bool) → reach (cond t (taken range 1) wrong) ≤ suc (length ds)
-    go true = omega arith
-    go false = omega arith
-
 -- and there are as many
 pub front-within : (c : Class) (b : ℕ) (bs : List ℕ) → reach (frontOf c b bs) ≤ length bs
 unfolding frontOf
 front-within newline b bs = omega arith
 front-within semicolon b bs = omega arith
 front-within mark b bs = omega arith
-front-within dot b bs = dots-within bs
+front-within dot b bs = dots-case (λ f. reach f ≤ length bs) bs (omega arith) (λ h. h)
 front-within blank b bs = omega arith
 front-within hash b bs = span-most inComment bs
 front-within other b bs = omega arith

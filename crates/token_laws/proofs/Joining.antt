@@ -70,13 +70,6 @@ join-after zero o n (x ∷ xs) b h e =
     (join-after (reach (frontOf (classOf x) x xs)) (suc o) n xs b (front-within (classOf x) x xs) (omega arith))
 join-after (suc k) o n (x ∷ xs) b h e = join-after k (suc o) n xs b (le-of-suc-le-suc h) (omega arith)
 
--- The tokens of two texts with a newline between: the first's, a separator, and the second's. A byte of the first that starts none ends both.
-pub tokens-join :
-    (o : ℕ) (a b : List ℕ)
-    → tokensAt o (a ++ 10 ∷ b)
-    ≡ append (tokensAt o a) (record { place = o + length a; shape = separator } ▸ tokensAt (o + length a + 1) b)
-tokens-join o a b = join-after 0 o (o + length a) a b (omega arith) refl
-
 -- what comes after what stands at a byte is as much later where it goes on so from there
 follow-raise :
     (f : Front) (o d : ℕ) (g h : ℕ → Tokens)
@@ -105,7 +98,8 @@ tokens-raise k o s = raise-after 0 k o s
 pub tokens-from : (k : ℕ) (s : List ℕ) → tokensAt k s ≡ raise k (tokens s)
 tokens-from k s = ap (λ (m : ℕ). tokensAt m s) (sym (zero-add k)) ∙ tokens-raise k 0 s
 
--- The tokens of a whole text made of two: the second's are those of the second alone, later by the first's length and the newline.
+-- The tokens of two texts with a newline between: the first's, a separator, and the second's, later by the first's length and the newline. A
+-- byte of the first that starts none ends both.
 pub tokens-newline :
     (a b : List ℕ)
     → tokens (a ++ 10 ∷ b)

@@ -120,13 +120,14 @@ shape-first o (shapes.mark m) rest e f = go (is "." m) refl
     go false t = mark-first o m rest e t
 
 -- a mark may follow a word and a number
+starts : (q : ℕ → Bool) (t : Bool) (m : ℕ) (rest : List ℕ) → startsWith q (cond t (m ∷ m ∷ []) (m ∷ []) ++ rest) ≡ q m
+starts q true m rest = refl
+starts q false m rest = refl
+
 mark-follows-word : (m : ℕ) (rest : List ℕ) → isShape (shapes.mark m) ≡ true → not (startsWith inWord (spell (shapes.mark m) ++ rest)) ≡ true
 unfolding classOf
-mark-follows-word m rest e = go (is "." m)
-  where
-    go : (t : Bool) → not (startsWith inWord (cond t (m ∷ m ∷ []) (m ∷ []) ++ rest)) ≡ true
-    go true = every-member (λ b. not (inWord b)) (bytes ".()[],*+?@;") m refl e
-    go false = every-member (λ b. not (inWord b)) (bytes ".()[],*+?@;") m refl e
+mark-follows-word m rest e =
+    ap not (starts inWord (is "." m) m rest) ∙ every-member (λ b. not (inWord b)) (bytes ".()[],*+?@;") m refl e
 
 mark-follows-number : (m : ℕ) (rest : List ℕ) → isShape (shapes.mark m) ≡ true → not (moreNumber (spell (shapes.mark m) ++ rest)) ≡ true
 unfolding classOf

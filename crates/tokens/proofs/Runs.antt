@@ -20,15 +20,24 @@ span-most p (b ∷ bs) = go (p b) (span-most p bs)
     go true h = omega arith
     go false h = omega arith
 
-module _ (p : ℕ → Bool) (s : List ℕ) (i : ℕ) where
+-- a run from one offset has come to another: as many bytes as were passed, and as many as still pass the test, are all that pass it
+pub record Ran (p : ℕ → Bool) (s : List ℕ) (at i : ℕ) : Type 0 where
+  pub within : i ≤ length s
+  pub same : i + span p (drop i s) ≡ at + span p (drop at s)
+
+module _ {p : ℕ → Bool} {s : List ℕ} {at i : ℕ} (r : Ran p s at i) where
   -- at the text's end
-  pub span-ends : length s ≤ i → i + span p (drop i s) ≡ i
-  span-ends h = simp (drop-of-length-le s h, add-zero)
+  pub ran-ends : length s ≤ i → i ≡ at + span p (drop at s)
+  ran-ends h = simp (drop-of-length-le s h, add-zero) at (r .same)
 
   -- at a byte that fails the test
-  pub span-stops : i < length s → p (getD s i 0) ≡ false → i + span p (drop i s) ≡ i
-  span-stops h e = simp (drop-cons s i 0 h, e, add-zero)
+  pub ran-stops : i < length s → p (getD s i 0) ≡ false → i ≡ at + span p (drop at s)
+  ran-stops h e = simp (drop-cons s i 0 h, e, add-zero) at (r .same)
 
   -- at a byte that passes it
-  pub span-goes-on : i < length s → p (getD s i 0) ≡ true → i + span p (drop i s) ≡ i + 1 + span p (drop (i + 1) s)
-  span-goes-on h e = simp (add-one, drop-cons s i 0 h, e) (add-suc i _ ∙ sym (suc-add i _))
+  pub ran-on : i < length s → p (getD s i 0) ≡ true → Ran p s at (i + 1)
+  ran-on h e =
+      record {
+        within = omega arith;
+        same = simp (add-one) (suc-add i _ ∙ sym (add-suc i _) ∙ simp (drop-cons s i 0 h, e) at (r .same));
+      }

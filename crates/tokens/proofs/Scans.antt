@@ -3,19 +3,17 @@
 use mathlib.Core.Path.{_≡_, refl, _∙_, ap, sym, fun-ext}
 use mathlib.Core.Bool.{Bool}
 use mathlib.Core.List.{List}
-use Prim.Native.Nat.{ℕ, zero, suc, _+_, _<_, _≤_}
+use Prim.Native.Nat.{ℕ, _+_, _<_, _≤_}
+use native.Mathlib.Nat.{add-zero}
 use native.Mathlib.Omega.{arith}
 use lib.ListN.{length, drop, length-drop}
 use Rattle.text.specs.Bytes.{span}
-use Rattle.tokens.specs.Class.{classNumber, classBetween}
+use Rattle.tokens.specs.Class.{classOf, classNumber, classBetween}
+use Rattle.tokens.specs.Lex.{frontOf, follow}
 use Rattle.tokens.specs.Next.{Passed, ScansOn, scanned}
-use Rattle.tokens.proofs.Classes.{word-run}
+use Rattle.tokens.proofs.Classes.{in-range, word-run}
 use Rattle.tokens.proofs.Runs.{span-most}
-use Rattle.tokens.proofs.Steps.{from, byte, at-separator, at-mark, at-word}
-
--- nothing is passed
-pub scans-nothing : (s : List ℕ) (i : ℕ) → ScansOn s i i
-scans-nothing s i = record { same = refl; within = λ l. absurd (omega arith) }
+use Rattle.tokens.proofs.Steps.{from, byte, after, step, at-word}
 
 -- a blank or a comment
 pub scans-passed : {s : List ℕ} {i r : ℕ} → Passed s i r → ScansOn s i r
@@ -24,14 +22,16 @@ scans-passed p = record { same = ap scanned (p .same); within = λ l. p .within 
 module _ (s : List ℕ) (i : ℕ) (h : i < length s) where
   -- a mark or a separator
   pub scans-mark : classNumber (byte s i) ≤ 2 → ScansOn s i (i + 1)
-  unfolding scanned
-  scans-mark l = record { same = go (classNumber (byte s i)) refl l; within = λ f. omega arith }
-    where
-      go : (n : ℕ) → classNumber (byte s i) ≡ n → n ≤ 2 → scanned (from s i) ≡ scanned (from s (i + 1))
-      go zero e l = ap scanned (at-separator s i h (omega arith))
-      go (suc zero) e l = ap scanned (at-separator s i h (omega arith))
-      go (suc (suc zero)) e l = ap scanned (at-mark s i h e)
-      go (suc (suc (suc n))) e l = absurd (omega arith)
+  unfolding frontOf follow scanned
+  scans-mark l =
+      record {
+        same =
+            ap scanned (step s i h)
+            ∙ in-range (λ k. scanned (follow (frontOf k (byte s i) (drop (i + 1) s)) i (after s i))) 0 2 (scanned (after s i 0)) refl
+            (classOf (byte s i)) (omega arith) l
+            ∙ ap (λ (n : ℕ). scanned (from s n)) (add-zero (i + 1));
+        within = λ f. omega arith;
+      }
 
   pub scans-word : (n : ℕ) → n ≡ i + 1 + span (classBetween 7 9) (drop (i + 1) s) → classNumber (byte s i) ≡ 9 → ScansOn s i n
   unfolding scanned

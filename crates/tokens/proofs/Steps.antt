@@ -1,7 +1,7 @@
 -- What the definition of tokens says at an offset of a text, for each class of the byte that stands there.
 -- Assumes nothing.
 use mathlib.Core.Path.{_≡_, refl, _∙_, ap, sym, fun-ext}
-use mathlib.Core.Bool.{Bool}
+use mathlib.Core.Bool.{Bool, true, false, cond}
 use mathlib.Core.List.{List, [], _∷_}
 use Prim.Native.Nat.{ℕ, zero, suc, _+_, _<_, _≤_}
 use native.Mathlib.Nat.{add-zero, add-suc, suc-add}
@@ -11,27 +11,21 @@ use lib.ListN.{length, getD, take, drop, drop-of-length-le}
 use lib.Seq.{drop-cons, drop-drop}
 use borrow.Author.Tests.{ne-eqb}
 use Rattle.text.specs.Bytes.{span}
-use Rattle.tokens.specs.Class.{
-  Class,
-  newline,
-  semicolon,
-  mark,
-  dot,
-  blank,
-  hash,
-  other,
-  hyphen,
-  digit,
-  letter,
-  number,
-  classOf,
-  classNumber,
-  classBetween,
-}
+use Rattle.tokens.specs.Class.{Class, dot, classOf, classNumber, classBetween, isA}
 use Rattle.tokens.specs.Token.{Shape, Token, Tokens, finish, bad, _▸_, separator, range}
 use Rattle.tokens.specs.Token as shapes
-use Rattle.tokens.specs.Lex.{Front, inWord, numberRest, dots, frontOf, follow, tokensAfter, tokensAt}
-use Rattle.tokens.proofs.Classes.{class-by-number, comment-run}
+use Rattle.tokens.specs.Lex.{Front, taken, wrong, inWord, numberRest, dots, frontOf, follow, tokensAfter, tokensAt}
+use Rattle.tokens.proofs.Classes.{ofNumber, class-by-number, in-range, comment-run}
+
+-- what holds of a byte that starts nothing, and of two points where there is another byte, holds of a point
+pub dots-case : (P : Front → Type 0) (bs : List ℕ) → P wrong → (1 ≤ length bs → P (taken range 1)) → P (dots bs)
+unfolding dots
+dots-case P [] w r = w
+dots-case P (d ∷ ds) w r = go (isA dot d)
+  where
+    go : (t : Bool) → P (cond t (taken range 1) wrong)
+    go true = r (omega arith)
+    go false = w
 
 -- the countdown of bytes to pass is a later start
 pub passed-by : (k o : ℕ) (s : List ℕ) → tokensAfter k o s ≡ tokensAt (o + k) (drop k s)
@@ -74,33 +68,30 @@ after s i k = from s (i + 1 + k)
 
 -- one class after the other; the byte's class is given by its number, as the table holds it
 module _ (s : List ℕ) (i : ℕ) (h : i < length s) where
-  at-class : (k : Class) → classOf (byte s i) ≡ k → from s i ≡ follow (frontOf k (byte s i) (drop (i + 1) s)) i (after s i)
-  at-class k e = step s i h ∙ ap (λ (c : Class). follow (frontOf c (byte s i) (drop (i + 1) s)) i (after s i)) e
+  at-front : (f : Front) → front s i ≡ f → from s i ≡ follow f i (after s i)
+  at-front f e = step s i h ∙ ap (λ (g : Front). follow g i (after s i)) e
+
+  at-class : (n : ℕ) → classNumber (byte s i) ≡ n → from s i ≡ follow (frontOf (ofNumber n) (byte s i) (drop (i + 1) s)) i (after s i)
+  at-class n e = at-front _ (ap (λ (c : Class). frontOf c (byte s i) (drop (i + 1) s)) (class-by-number (byte s i) n e))
 
   pub past-blank : classNumber (byte s i) ≡ 4 → from s i ≡ from s (i + 1)
   unfolding frontOf follow
-  past-blank e = at-class blank (class-by-number (byte s i) 4 e) ∙ ap (from s) (add-zero (i + 1))
+  past-blank e = rw (add-zero (i + 1)) at (at-class 4 e)
 
   pub past-comment : classNumber (byte s i) ≡ 5 → from s i ≡ after s i (span (classBetween 1 9) (drop (i + 1) s))
   unfolding frontOf follow
-  past-comment e =
-      at-class hash (class-by-number (byte s i) 5 e)
-      ∙ ap (λ (p : ℕ → Bool). after s i (span p (drop (i + 1) s))) (sym (fun-ext comment-run))
+  past-comment e = at-class 5 e ∙ ap (λ (p : ℕ → Bool). after s i (span p (drop (i + 1) s))) (sym (fun-ext comment-run))
 
   pub at-separator : classNumber (byte s i) ≤ 1 → from s i ≡ token i separator ▸ from s (i + 1)
   unfolding frontOf follow
-  at-separator l = go (classNumber (byte s i)) refl l ∙ ap (λ (n : ℕ). token i separator ▸ from s n) (add-zero (i + 1))
-    where
-      go : (n : ℕ) → classNumber (byte s i) ≡ n → n ≤ 1 → from s i ≡ token i separator ▸ after s i 0
-      go zero e l = at-class newline (class-by-number (byte s i) 0 e)
-      go (suc zero) e l = at-class semicolon (class-by-number (byte s i) 1 e)
-      go (suc (suc n)) e l = absurd (omega arith)
+  at-separator l =
+      rw (add-zero (i + 1))
+      at (at-front (taken separator 0)
+      (in-range (λ k. frontOf k (byte s i) (drop (i + 1) s)) 0 1 (taken separator 0) refl (classOf (byte s i)) (omega arith) l))
 
   pub at-mark : classNumber (byte s i) ≡ 2 → from s i ≡ token i (shapes.mark (byte s i)) ▸ from s (i + 1)
   unfolding frontOf follow
-  at-mark e =
-      at-class mark (class-by-number (byte s i) 2 e)
-      ∙ ap (λ (n : ℕ). token i (shapes.mark (byte s i)) ▸ from s n) (add-zero (i + 1))
+  at-mark e = rw (add-zero (i + 1)) at (at-class 2 e)
 
   pub at-number :
       classNumber (byte s i) ≡ 8
@@ -108,7 +99,7 @@ module _ (s : List ℕ) (i : ℕ) (h : i < length s) where
       ≡ token i (shapes.number (byte s i ∷ take (numberRest (drop (i + 1) s)) (drop (i + 1) s)))
       ▸ after s i (numberRest (drop (i + 1) s))
   unfolding frontOf follow
-  at-number e = at-class digit (class-by-number (byte s i) 8 e)
+  at-number e = at-class 8 e
 
   pub at-word :
       classNumber (byte s i) ≡ 9
@@ -116,29 +107,17 @@ module _ (s : List ℕ) (i : ℕ) (h : i < length s) where
       ≡ token i (shapes.word (byte s i ∷ take (span inWord (drop (i + 1) s)) (drop (i + 1) s)))
       ▸ after s i (span inWord (drop (i + 1) s))
   unfolding frontOf follow
-  at-word e = at-class letter (class-by-number (byte s i) 9 e)
+  at-word e = at-class 9 e
 
   -- a byte that starts no token
   pub at-none : 6 ≤ classNumber (byte s i) → classNumber (byte s i) ≤ 7 → from s i ≡ bad i
   unfolding frontOf follow
-  at-none l m = go (classOf (byte s i)) refl
-    where
-      go : (k : Class) → classOf (byte s i) ≡ k → from s i ≡ bad i
-      go other e = at-class other e
-      go hyphen e = at-class hyphen e
-      go newline e = absurd (omega (arith, ap number e))
-      go semicolon e = absurd (omega (arith, ap number e))
-      go mark e = absurd (omega (arith, ap number e))
-      go dot e = absurd (omega (arith, ap number e))
-      go blank e = absurd (omega (arith, ap number e))
-      go hash e = absurd (omega (arith, ap number e))
-      go digit e = absurd (omega (arith, ap number e))
-      go letter e = absurd (omega (arith, ap number e))
+  at-none l m = at-front wrong (in-range (λ k. frontOf k (byte s i) (drop (i + 1) s)) 6 7 wrong refl (classOf (byte s i)) l m)
 
   -- a point: at the text's end, before another point, and before anything else
   pub at-point : classNumber (byte s i) ≡ 3 → from s i ≡ follow (dots (drop (i + 1) s)) i (after s i)
   unfolding frontOf
-  at-point e = at-class dot (class-by-number (byte s i) 3 e)
+  at-point e = at-class 3 e
 
   pub at-last-point : classNumber (byte s i) ≡ 3 → length s ≤ i + 1 → from s i ≡ bad i
   unfolding dots follow

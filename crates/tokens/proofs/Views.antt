@@ -2,8 +2,8 @@
 -- tokens need no more than these laws.
 -- Assumes nothing.
 use mathlib.Core.Path.{_≡_, refl, _∙_, ap, sym, subst}
-use mathlib.Core.Bool.{Bool, true, false, cond}
-use mathlib.Core.List.{List, [], _∷_}
+use mathlib.Core.Bool.{Bool, true, false}
+use mathlib.Core.List.{List, _∷_}
 use Prim.Native.Nat.{ℕ, zero, suc, _+_, _-_, _<_, _≤_}
 use native.Mathlib.Numerals.{add-one}
 use native.Mathlib.Omega.{arith}
@@ -14,30 +14,16 @@ use lib.Seq.{drop-cons, length-take-le}
 use Rattle.text.specs.Bytes.{span}
 use Rattle.tokens.specs.declared.Lexed.{Lexed}
 use Rattle.tokens.specs.declared.Lexed.the-variants.{Word, Number, Mark, Bad, End}
-use Rattle.tokens.specs.Class.{
-  Class,
-  newline,
-  semicolon,
-  mark,
-  dot,
-  blank,
-  hash,
-  other,
-  hyphen,
-  digit,
-  letter,
-  classOf,
-  isA,
-}
-use Rattle.tokens.specs.Token.{Shape, Token, finish, bad, _▸_, range, width, past}
+use Rattle.tokens.specs.Class.{Class, newline, semicolon, mark, dot, blank, hash, other, hyphen, digit, letter, classOf}
+use Rattle.tokens.specs.Token.{Shape, Token, finish, bad, _▸_, width}
 use Rattle.tokens.specs.Token as shapes
-use Rattle.tokens.specs.Lex.{Front, skip, taken, wrong, inWord, numberRest, dots, frontOf, follow}
+use Rattle.tokens.specs.Lex.{Front, skip, taken, wrong, inWord, numberRest, frontOf, follow}
 use Rattle.tokens.specs.declared.Token as kinds
 use Rattle.tokens.specs.Next.{first, lexedAs, byKind, tokenAt}
 use Rattle.tokens.proofs.Classes.{mark-no-point, mark-large}
 use Rattle.tokens.proofs.Runs.{span-most}
 use Rattle.tokens.proofs.Numbers.{number-most}
-use Rattle.tokens.proofs.Steps.{from, byte, front, after, token, at-end, step}
+use Rattle.tokens.proofs.Steps.{from, byte, front, after, token, dots-case, at-end, step}
 
 -- a word and a number have the bytes that they are written with, and a mark is one of the large bytes
 abbrev pub SpelledBy : Shape → List ℕ → Type 0
@@ -55,21 +41,12 @@ Fits b bs (skip k) = Unit {0}
 Fits b bs (taken s k) = (width s ≡ suc k) × (k ≤ length bs) × SpelledBy s (b ∷ take k bs)
 Fits b bs wrong = Unit {0}
 
-dots-fit : (b : ℕ) (bs : List ℕ) → Fits b bs (dots bs)
-unfolding dots
-dots-fit b [] = tt
-dots-fit b (d ∷ ds) = go (isA dot d)
-  where
-    go : (t : Bool) → Fits b (d ∷ ds) (cond t (taken range 1) wrong)
-    go true = (refl, omega arith, lit≤ tt)
-    go false = tt
-
 front-fits : (k : Class) (b : ℕ) (bs : List ℕ) → classOf b ≡ k → Fits b bs (frontOf k b bs)
 unfolding frontOf
 front-fits newline b bs e = (refl, omega arith, lit≤ tt)
 front-fits semicolon b bs e = (refl, omega arith, lit≤ tt)
 front-fits mark b bs e = (simp (mark-no-point b e), omega arith, mark-large b e)
-front-fits dot b bs e = dots-fit b bs
+front-fits dot b bs e = dots-case (Fits b bs) bs tt (λ h. (refl, h, lit≤ tt))
 front-fits blank b bs e = tt
 front-fits hash b bs e = tt
 front-fits other b bs e = tt
@@ -85,73 +62,6 @@ pub record Reads (s : List ℕ) (o : ℕ) (t : Token) (n : ℕ) : Type 0 where
   pub wide : t .place < n
   pub within : n ≤ length s
 
--- what there can be at an offset or after it
-data Seen (s : List ℕ) (o : ℕ) : Type 0 where
-  finished : from s o ≡ finish → Seen s o
-  stray : (e : ℕ) → from s o ≡ bad e → from s e ≡ bad e → o ≤ e → e < length s → Seen s o
-  seen : (t : Token) → Reads s o t (past t) → SpelledBy (t .shape) (part s (t .place) (past t)) → Seen s o
-
--- what is there after a start is there at it, where the tokens are the same
-earlier : (s : List ℕ) (o p : ℕ) → from s o ≡ from s p → o ≤ p → Seen s p → Seen s o
-earlier s o p e h (finished f) = finished (e ∙ f)
-earlier s o p e h (stray x f g a b) = stray x (e ∙ f) g (omega arith) b
-earlier s o p e h (seen t r w) =
-    seen t (record { tokens = e ∙ r .tokens; there = r .there; ahead = omega (arith, r .ahead); wide = r .wide; within = r .within }) w
-
--- a token that stands at the offset itself
-here :
-    (s : List ℕ) (o : ℕ) (x : Shape) (k : ℕ)
-    → o < length s
-    → from s o ≡ token o x ▸ after s o k
-    → Fits (byte s o) (drop (o + 1) s) (taken x k)
-    → Seen s o
-here s o x k h e f =
-    let p : o + 1 + k ≡ past (token o x) = omega (arith, f .0) in
-    seen (token o x)
-    (record {
-      tokens = e ∙ ap (λ (n : ℕ). token o x ▸ from s n) p;
-      there = e ∙ ap (λ (n : ℕ). token o x ▸ from s n) p;
-      ahead = omega arith;
-      wide = omega (arith, f .0);
-      within = omega (arith, f .0, f .1, length-drop (o + 1) s);
-    })
-    (subst (SpelledBy x) spelt (f .2))
-  where
-    spelt : byte s o ∷ take k (drop (o + 1) s) ≡ part s o (past (token o x))
-    spelt =
-        let n : o + width x - o ≡ suc k = omega (arith, f .0) in
-        sym
-        (ap (λ (m : ℕ). take m (drop o s)) n
-        ∙ ap (take (suc k)) (drop-cons s o 0 h)
-        ∙ ap (λ (m : ℕ). byte s o ∷ take k (drop m s)) (sym (add-one o))
-        )
-
-see-front :
-    (s : List ℕ) (o : ℕ)
-    → o < length s
-    → ((p : ℕ) → o < p → Seen s p)
-    → (f : Front)
-    → from s o ≡ follow f o (after s o)
-    → Fits (byte s o) (drop (o + 1) s) f
-    → Seen s o
-unfolding follow
-see-front s o h later (skip k) e w = earlier s o (o + 1 + k) e (omega arith) (later (o + 1 + k) (omega arith))
-see-front s o h later (taken x k) e w = here s o x k h e w
-see-front s o h later wrong e w = stray o e e (omega arith) h
-
-see-from : (n : ℕ) (s : List ℕ) (o : ℕ) → length s ≤ o + n → Seen s o
-see-from zero s o h = finished (at-end s o (omega arith))
-see-from (suc n) s o h = go (leb (length s) o) refl (λ p l. see-from n s p (omega arith))
-  where
-    go : (t : Bool) → leb (length s) o ≡ t → ((p : ℕ) → o < p → Seen s p) → Seen s o
-    go true e later = finished (at-end s o (leb-true (length s) o e))
-    go false e later =
-        let h : o < length s = leb-false (length s) o e in
-        see-front s o h later (front s o) (step s o h) (front-fits (classOf (byte s o)) (byte s o) (drop (o + 1) s) refl)
-
-see : (s : List ℕ) (o : ℕ) → Seen s o
-see s o = see-from (length s) s o (omega arith)
-
 -- What each of the lexer's answers tells.
 abbrev pub Tells : List ℕ → ℕ → Lexed → Type 0
 Tells s o (Word a c) = Reads s o (token a (shapes.word (part s a (c .at)))) (c .at)
@@ -160,22 +70,70 @@ Tells s o (Mark m a c) = Reads s o (token a (shapes.mark m)) (c .at) × (40 ≤ 
 Tells s o (Bad e) = (from s o ≡ bad e) × (from s e ≡ bad e) × (o ≤ e) × (e < length s)
 Tells s o End = from s o ≡ finish
 
--- a token's answer, its bytes being those of the text
-as-written : (s : List ℕ) (o a : ℕ) (x : Shape) → Reads s o (token a x) (a + width x) → SpelledBy x (part s a (a + width x)) → Tells s o (lexedAs a x)
-unfolding lexedAs
-as-written s o a (shapes.word w) r e = subst (λ (l : List ℕ). Reads s o (token a (shapes.word l)) (a + length w)) e r
-as-written s o a (shapes.number w) r e = subst (λ (l : List ℕ). Reads s o (token a (shapes.number l)) (a + length w)) e r
-as-written s o a (shapes.mark m) r e = (r, e)
+-- what is told after a start is told at it, where the tokens are the same
+module _ (s : List ℕ) (o p : ℕ) (e : from s o ≡ from s p) (h : o ≤ p) where
+  sooner : {t : Token} {n : ℕ} → Reads s p t n → Reads s o t n
+  sooner r = record { tokens = e ∙ r .tokens; there = r .there; ahead = omega (arith, r .ahead); wide = r .wide; within = r .within }
 
-tells : (s : List ℕ) (o : ℕ) → Seen s o → Tells s o (first (from s o))
+  earlier : (l : Lexed) → Tells s p l → Tells s o l
+  earlier (Word a c) r = sooner r
+  earlier (Number a c) r = sooner r
+  earlier (Mark m a c) r = (sooner (r .0), r .1)
+  earlier (Bad x) r = (e ∙ r .0, r .1, omega (arith, r .2), r .3)
+  earlier End r = e ∙ r
+
+-- a token's answer, its bytes being those of the text
+as-written : (s : List ℕ) (o : ℕ) (x : Shape) → Reads s o (token o x) (o + width x) → SpelledBy x (part s o (o + width x)) → Tells s o (lexedAs o x)
+unfolding lexedAs
+as-written s o (shapes.word w) r e = subst (λ (l : List ℕ). Reads s o (token o (shapes.word l)) (o + length w)) e r
+as-written s o (shapes.number w) r e = subst (λ (l : List ℕ). Reads s o (token o (shapes.number l)) (o + length w)) e r
+as-written s o (shapes.mark m) r e = (r, e)
+
+-- what stands at the offset: something to skip, with what is told behind it, a token, or a byte that starts none
+module _ (s : List ℕ) (o : ℕ) (h : o < length s) where
+  spelt : (x : Shape) (k : ℕ) → width x ≡ suc k → byte s o ∷ take k (drop (o + 1) s) ≡ part s o (o + width x)
+  spelt x k e =
+      let n : o + width x - o ≡ suc k = omega arith in
+      sym
+      (ap (λ (m : ℕ). take m (drop o s)) n
+      ∙ ap (take (suc k)) (drop-cons s o 0 h)
+      ∙ ap (λ (m : ℕ). byte s o ∷ take k (drop m s)) (sym (add-one o))
+      )
+
+  tell-front :
+      ((p : ℕ) → o < p → Tells s p (first (from s p)))
+      → (f : Front)
+      → from s o ≡ follow f o (after s o)
+      → Fits (byte s o) (drop (o + 1) s) f
+      → Tells s o (first (from s o))
+  unfolding first follow
+  tell-front later (skip k) e f = rw e (earlier s o (o + 1 + k) e (omega arith) (first (from s (o + 1 + k))) (later (o + 1 + k) (omega arith)))
+  tell-front later (taken x k) e f =
+      let n : o + 1 + k ≡ o + width x = omega (arith, f .0) in
+      let r : from s o ≡ token o x ▸ from s (o + width x) = e ∙ ap (λ (m : ℕ). token o x ▸ from s m) n in
+      rw e
+      (as-written s o x
+      (record { tokens = r; there = r; ahead = omega arith; wide = omega (arith, f .0); within = omega (arith, f .0, f .1, length-drop (o + 1) s) })
+      (subst (SpelledBy x) (spelt x k (f .0)) (f .2)))
+  tell-front later wrong e f = rw e (e, e, omega arith, h)
+
+tell-end : (s : List ℕ) (o : ℕ) → length s ≤ o → Tells s o (first (from s o))
 unfolding first
-tells s o (finished f) = subst (Tells s o) (sym (ap first f)) f
-tells s o (stray e f g i j) = subst (Tells s o) (sym (ap first f)) (f, g, i, j)
-tells s o (seen t r w) = subst (Tells s o) (sym (ap first (r .tokens))) (as-written s o (t .place) (t .shape) r w)
+tell-end s o h = rw (at-end s o h) (at-end s o h)
+
+tell-from : (n : ℕ) (s : List ℕ) (o : ℕ) → length s ≤ o + n → Tells s o (first (from s o))
+tell-from zero s o h = tell-end s o (omega arith)
+tell-from (suc n) s o h = go (leb (length s) o) refl (λ p l. tell-from n s p (omega arith))
+  where
+    go : (t : Bool) → leb (length s) o ≡ t → ((p : ℕ) → o < p → Tells s p (first (from s p))) → Tells s o (first (from s o))
+    go true e later = tell-end s o (leb-true (length s) o e)
+    go false e later =
+        let h : o < length s = leb-false (length s) o e in
+        tell-front s o h later (front s o) (step s o h) (front-fits (classOf (byte s o)) (byte s o) (drop (o + 1) s) refl)
 
 -- the law for readers of tokens: the answer at an offset tells what it says
 pub told : (s : List ℕ) (o : ℕ) (l : Lexed) → l ≡ first (from s o) → Tells s o l
-told s o l e = subst (Tells s o) (sym e) (tells s o (see s o))
+told s o l e = subst (Tells s o) (sym e) (tell-from (length s) s o (omega arith))
 
 -- What a token's kind tells.
 pub data Known (s : List ℕ) (o : ℕ) (t : kinds.Token) : Type 0 where

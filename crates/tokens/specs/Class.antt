@@ -1,10 +1,11 @@
 -- Document 01, Reading: "Space, tab and CR are skipped. Newline and `;` separate. `#` skips to the newline; bytes of 128
 -- and more may stand only there." And "The match on `char`: a table of 256 byte classes, and a decision by class."
-use Prim.Native.Nat.{ℕ, zero, suc}
+use Prim.Native.Nat.{ℕ}
 use mathlib.Core.Bool.{Bool, cond, _&&_, _||_}
-use mathlib.Core.List.{List, [], _∷_, map}
+use mathlib.Core.List.{List, map}
 use lib.Dec.{eqb, leb}
 use Rattle.text.specs.Bytes.{is, among, between}
+pub use Rattle.text.specs.Bytes.{countUp}
 
 pub data Class : Type 0 where
   newline semicolon mark dot blank hash other hyphen digit letter : Class
@@ -46,11 +47,6 @@ isA k b = eqb (classNumber b) (number k)
 -- the byte's class lies between two numbers, both included
 abbrev pub classBetween : ℕ → ℕ → ℕ → Bool
 classBetween lo hi b = leb lo (classNumber b) && leb (classNumber b) hi
-
--- the numbers from one on, as many as the second says
-abbrev pub countUp : ℕ → ℕ → List ℕ
-countUp i zero = []
-countUp i (suc n) = i ∷ countUp (suc i) n
 
 -- the table: each byte's class number at its place
 unfoldable pub classTable : List ℕ

@@ -4,7 +4,7 @@ use mathlib.Core.Bool.{false}
 use mathlib.Core.List.{List}
 use mathlib.Core.Path.{_≡_}
 use lib.ListN.{length, drop, getD}
-use Rattle.tokens.specs.Class.{classNumber, classBetween}
+use Rattle.tokens.specs.Class.{dot, blank, hash, number as numberOf, classNumber, classBetween}
 use Rattle.tokens.specs.Lex.{tokensAt}
 use Rattle.tokens.specs.declared
 use Rattle.tokens.specs.declared.Cursor.{Cursor}
@@ -29,7 +29,7 @@ first finish = End
 first (bad o) = Bad o
 first (t ▸ ts) = lexedAs (t .place) (t .shape)
 
--- the same, by the number of its kind
+-- the same, by the number of its kind: 0 a word, 1 a number, 2 a byte that starts none, 3 the text's end; a mark's is its byte
 unfoldable pub byKind : ℕ → Lexed → declared.Token.Token
 byKind size (Word o c) = record { kind = 0; start = o; next = c }
 byKind size (Number o c) = record { kind = 1; start = o; next = c }
@@ -52,8 +52,8 @@ scanned (t ▸ ts) = scanned ts
 pub record Skippable (s : List ℕ) (o class : ℕ) : Type 0 where
   pub inside : o < length s
   pub class-is : class ≡ classNumber (getD s o 0)
-  pub least : 4 ≤ class
-  pub most : class ≤ 5
+  pub least : numberOf blank ≤ class
+  pub most : class ≤ numberOf hash
 
 -- the first offset's tokens are those from the second on, and there is more of the text behind the first than behind the second
 pub record Passed (s : List ℕ) (o r : ℕ) : Type 0 where
@@ -64,7 +64,7 @@ pub record Passed (s : List ℕ) (o r : ℕ) : Type 0 where
 -- the first offset's tokens are those from the second on, where a token stands, or a byte that starts none, or the text's end
 pub record Skipped (s : List ℕ) (o r : ℕ) : Type 0 where
   pub same : tokensAt o (drop o s) ≡ tokensAt r (drop r s)
-  pub stands : r < length s → classBetween 4 5 (getD s r 0) ≡ false
+  pub stands : r < length s → classBetween (numberOf blank) (numberOf hash) (getD s r 0) ≡ false
 
 -- a scan from the first offset finds what one from the second finds, and the second lies in the text where it is further on
 pub record ScansOn (s : List ℕ) (o r : ℕ) : Type 0 where
@@ -74,4 +74,4 @@ pub record ScansOn (s : List ℕ) (o r : ℕ) : Type 0 where
 -- a point stands at the offset
 pub record PointAt (s : List ℕ) (o : ℕ) : Type 0 where
   pub inside : o < length s
-  pub is-point : classNumber (getD s o 0) ≡ 3
+  pub is-point : classNumber (getD s o 0) ≡ numberOf dot

@@ -3,13 +3,36 @@ ghost use mathlib.Core.Path.{_≡_};
 ghost use Prim.Native.Nat.{_+_, _≤_, _<_};
 ghost use lib.ListN.{length, drop, getD};
 ghost use Rattle.text.specs.Bytes.{span};
-ghost use Rattle.tokens.specs.Class.{classTable, classBetween, classNumber};
+ghost use Rattle.tokens.specs.Class.{classTable, classBetween, classNumber, number, hyphen, letter};
 ghost use Rattle.tokens.specs.Lex.{tokensAt, tokens, numberRest};
 ghost use Rattle.tokens.specs.Next.{cursor, first, tokenAt, scanned, Passed, PointAt, ScansOn, Skippable, Skipped};
 
-// The class of each byte, by its number: 0 newline, 1 semicolon, 2 mark, 3 dot, 4 blank, 5 hash, 6 other, 7 hyphen,
-// 8 digit, 9 letter; sixteen bytes a row. A call that reads a text makes this table a local once and lends it to every function below.
-pub const CLASSES: [u8; 256] = *b"\
+// The classes of bytes: separators, marks, what is skipped, what starts no token, and what words and numbers are made of, each side by side.
+pub const NEWLINE: u8 = 0;
+
+pub const SEMICOLON: u8 = 1;
+
+pub const MARK: u8 = 2;
+
+pub const DOT: u8 = 3;
+
+pub const BLANK: u8 = 4;
+
+pub const HASH: u8 = 5;
+
+pub const OTHER: u8 = 6;
+
+pub const HYPHEN: u8 = 7;
+
+pub const DIGIT: u8 = 8;
+
+pub const LETTER: u8 = 9;
+
+// A class for each byte.
+pub type Classes = [u8; 256];
+
+// The class of each byte, sixteen bytes a row. A call that reads a text makes this table a local once and lends it to every function below.
+pub const CLASSES: Classes = *b"\
     \x06\x06\x06\x06\x06\x06\x06\x06\x06\x04\x00\x06\x06\x04\x06\x06\
     \x06\x06\x06\x06\x06\x06\x06\x06\x06\x06\x06\x06\x06\x06\x06\x06\
     \x04\x06\x06\x05\x06\x06\x06\x06\x02\x02\x02\x02\x02\x07\x03\x06\
@@ -54,8 +77,17 @@ pub enum Lexed {
     End,
 }
 
-// A token by the number of its kind: 0 a word, 1 a number, 2 a byte that starts none, 3 the text's end, which stands at its length; a mark
-// is of its own byte's kind. Readers that ask for one mark or another match on the kind.
+// The kinds of tokens that are no marks: a word, a number, a byte that starts none, and the text's end. All marks are above these.
+pub const WORD: u8 = 0;
+
+pub const NUMBER: u8 = 1;
+
+pub const BAD: u8 = 2;
+
+pub const END: u8 = 3;
+
+// A token by its kind; a mark is of its own byte's kind. The text's end stands at its length. Readers that ask for one mark or another match
+// on the kind.
 pub struct Token {
     pub kind: u8,
     pub start: usize,
@@ -69,7 +101,7 @@ pub enum Scanned {
 }
 
 // The class of the byte at an offset.
-fn class_at(text: &[u8], classes: &[u8; 256], at: usize) -> u8
+fn class_at(text: &[u8], classes: &Classes, at: usize) -> u8
     requires { ⌜ (now classes ≡ classTable) × (at < length (now text)) ⌝ }
     ensures { λ r. ⌜ r ≡ classNumber (getD (now (text .entry)) at 0) ⌝ }
 {
@@ -77,7 +109,7 @@ fn class_at(text: &[u8], classes: &[u8; 256], at: usize) -> u8
 }
 
 // The offset of the first byte, from `at` on, whose class does not lie between `lo` and `hi`.
-fn run_end(text: &[u8], classes: &[u8; 256], at: usize, lo: u8, hi: u8) -> usize
+fn run_end(text: &[u8], classes: &Classes, at: usize, lo: u8, hi: u8) -> usize
     requires { ⌜ (now classes ≡ classTable) × (at ≤ length (now text)) ⌝ }
     ensures { λ r. ⌜ r ≡ at + span (classBetween lo hi) (drop at (now (text .entry))) ⌝ }
 {
@@ -96,13 +128,13 @@ fn run_end(text: &[u8], classes: &[u8; 256], at: usize, lo: u8, hi: u8) -> usize
 }
 
 // The offset after a word whose first letter stands just before `at`: hyphens, digits and letters are the last classes.
-fn word_end(text: &[u8], classes: &[u8; 256], at: usize) -> usize
+fn word_end(text: &[u8], classes: &Classes, at: usize) -> usize
     requires { ⌜ (now classes ≡ classTable) × (at ≤ length (now text)) ⌝ }
-    ensures { λ r. ⌜ r ≡ at + span (classBetween 7 9) (drop at (now (text .entry))) ⌝ }
+    ensures { λ r. ⌜ r ≡ at + span (classBetween (number hyphen) (number letter)) (drop at (now (text .entry))) ⌝ }
 {
     let mut i = at;
     while i < text.len() {
-        if class_at(text, classes, i) < 7 {
+        if class_at(text, classes, i) < HYPHEN {
             return i;
         }
         i += 1;
@@ -111,46 +143,46 @@ fn word_end(text: &[u8], classes: &[u8; 256], at: usize) -> usize
 }
 
 // The offset after a number whose first digit stands just before `at`.
-fn number_end(text: &[u8], classes: &[u8; 256], at: usize) -> usize
+fn number_end(text: &[u8], classes: &Classes, at: usize) -> usize
     requires { ⌜ (now classes ≡ classTable) × (at ≤ length (now text)) ⌝ }
     ensures { λ r. ⌜ r ≡ at + numberRest (drop at (now (text .entry))) ⌝ }
 {
-    let point = run_end(text, classes, at, 8, 8);
+    let point = run_end(text, classes, at, DIGIT, DIGIT);
     if text.len() - point < 2 {
         return point;
     }
-    if class_at(text, classes, point) != 3 {
+    if class_at(text, classes, point) != DOT {
         return point;
     }
-    if class_at(text, classes, point + 1) != 8 {
+    if class_at(text, classes, point + 1) != DIGIT {
         return point;
     }
-    run_end(text, classes, point + 2, 8, 8)
+    run_end(text, classes, point + 2, DIGIT, DIGIT)
 }
 
 // The offset after a blank or a comment at `at`, whose class is known.
-fn passed(text: &[u8], classes: &[u8; 256], at: usize, class: u8) -> usize
+fn passed(text: &[u8], classes: &Classes, at: usize, class: u8) -> usize
     requires { ⌜ (now classes ≡ classTable) × Skippable (now text) at class ⌝ }
     ensures { λ r. ⌜ Passed (now (text .entry)) at r ⌝ }
 {
-    if class == 4 {
+    if class == BLANK {
         return at + 1;
     }
-    run_end(text, classes, at + 1, 1, 9)
+    run_end(text, classes, at + 1, SEMICOLON, LETTER)
 }
 
 // The offset of the first byte, from `at` on, that is no blank and stands in no comment.
-fn skip(text: &[u8], classes: &[u8; 256], at: usize) -> usize
+fn skip(text: &[u8], classes: &Classes, at: usize) -> usize
     requires { ⌜ now classes ≡ classTable ⌝ }
     ensures { λ r. ⌜ Skipped (now (text .entry)) at r ⌝ }
 {
     let mut i = at;
     while i < text.len() {
         let class = class_at(text, classes, i);
-        if class < 4 {
+        if class < BLANK {
             return i;
         }
-        if 5 < class {
+        if HASH < class {
             return i;
         }
         i = passed(text, classes, i, class);
@@ -159,14 +191,14 @@ fn skip(text: &[u8], classes: &[u8; 256], at: usize) -> usize
 }
 
 // `..` at a point, or a point that starts no token.
-fn dots(text: &[u8], classes: &[u8; 256], start: usize) -> Lexed
+fn dots(text: &[u8], classes: &Classes, start: usize) -> Lexed
     requires { ⌜ (now classes ≡ classTable) × PointAt (now text) start ⌝ }
     ensures { λ r. ⌜ r ≡ first (tokensAt start (drop start (now (text .entry)))) ⌝ }
 {
     if text.len() - start < 2 {
         return Lexed::Bad { start };
     }
-    if class_at(text, classes, start + 1) == 3 {
+    if class_at(text, classes, start + 1) == DOT {
         return Lexed::Mark {
             mark: b'.',
             start,
@@ -185,7 +217,7 @@ impl Cursor {
     }
 
     // The token at the cursor or after it, with the cursor past it.
-    pub fn next(self, text: &[u8], classes: &[u8; 256]) -> Lexed
+    pub fn next(self, text: &[u8], classes: &Classes) -> Lexed
         requires { ⌜ now classes ≡ classTable ⌝ }
         ensures { λ r. ⌜ r ≡ first (tokensAt (self .at) (drop (self .at) (now (text .entry)))) ⌝ }
     {
@@ -197,25 +229,25 @@ impl Cursor {
         let class = class_at(text, classes, start);
         let after = start + 1;
         match class {
-            0..=1 => Lexed::Mark {
+            NEWLINE..=SEMICOLON => Lexed::Mark {
                 mark: b';',
                 start,
                 next: Cursor { at: after },
             },
-            2 => Lexed::Mark {
+            MARK => Lexed::Mark {
                 mark: byte,
                 start,
                 next: Cursor { at: after },
             },
-            3 => dots(text, classes, start),
-            8 => {
+            DOT => dots(text, classes, start),
+            DIGIT => {
                 let at = number_end(text, classes, after);
                 Lexed::Number {
                     start,
                     next: Cursor { at },
                 }
             }
-            9 => {
+            LETTER => {
                 let at = word_end(text, classes, after);
                 Lexed::Word {
                     start,
@@ -229,18 +261,18 @@ impl Cursor {
 
 impl Cursor {
     // The token at the cursor, or after the blanks and comments there.
-    pub fn token_after_blanks(self, text: &[u8], classes: &[u8; 256]) -> Token
+    pub fn token_after_blanks(self, text: &[u8], classes: &Classes) -> Token
         requires { ⌜ now classes ≡ classTable ⌝ }
         ensures { λ r. ⌜ r ≡ tokenAt (now (text .entry)) (self .at) ⌝ }
     {
         match self.next(text, classes) {
             Lexed::Word { start, next } => Token {
-                kind: 0,
+                kind: WORD,
                 start,
                 next,
             },
             Lexed::Number { start, next } => Token {
-                kind: 1,
+                kind: NUMBER,
                 start,
                 next,
             },
@@ -250,67 +282,59 @@ impl Cursor {
                 next,
             },
             Lexed::Bad { start } => Token {
-                kind: 2,
+                kind: BAD,
                 start,
                 next: Cursor { at: start },
             },
             Lexed::End => Token {
-                kind: 3,
+                kind: END,
                 start: text.len(),
                 next: Cursor { at: text.len() },
             },
         }
     }
 
-    // The same; most tokens that are no mark are words at the cursor.
-    fn word_or_later(self, text: &[u8], classes: &[u8; 256]) -> Token
+    // The same, decided by the class of the byte at the cursor: separators, marks and words that stand there, and the text's end, are answered
+    // at once, all else the long way.
+    pub fn token(self, text: &[u8], classes: &Classes) -> Token
         requires { ⌜ now classes ≡ classTable ⌝ }
         ensures { λ r. ⌜ r ≡ tokenAt (now (text .entry)) (self .at) ⌝ }
     {
         let at = self.at;
-        if at < text.len() {
-            if class_at(text, classes, at) == 9 {
+        if text.len() <= at {
+            return Token {
+                kind: END,
+                start: text.len(),
+                next: Cursor { at: text.len() },
+            };
+        }
+        let class = class_at(text, classes, at);
+        match class {
+            NEWLINE..=SEMICOLON => Token {
+                kind: b';',
+                start: at,
+                next: Cursor { at: at + 1 },
+            },
+            MARK => Token {
+                kind: text[at],
+                start: at,
+                next: Cursor { at: at + 1 },
+            },
+            LETTER => {
                 let end = word_end(text, classes, at + 1);
-                return Token {
-                    kind: 0,
+                Token {
+                    kind: WORD,
                     start: at,
                     next: Cursor { at: end },
-                };
+                }
             }
+            _ => self.token_after_blanks(text, classes),
         }
-        self.token_after_blanks(text, classes)
-    }
-
-    // The same. Marks, separators and words that stand at the cursor are answered without a call of `next`; all else goes the long way.
-    pub fn token(self, text: &[u8], classes: &[u8; 256]) -> Token
-        requires { ⌜ now classes ≡ classTable ⌝ }
-        ensures { λ r. ⌜ r ≡ tokenAt (now (text .entry)) (self .at) ⌝ }
-    {
-        let at = self.at;
-        if at < text.len() {
-            let byte = text[at];
-            let class = class_at(text, classes, at);
-            if class == 2 {
-                return Token {
-                    kind: byte,
-                    start: at,
-                    next: Cursor { at: at + 1 },
-                };
-            }
-            if class < 2 {
-                return Token {
-                    kind: b';',
-                    start: at,
-                    next: Cursor { at: at + 1 },
-                };
-            }
-        }
-        self.word_or_later(text, classes)
     }
 }
 
 // The offset after a blank, a comment, a mark, a separator or a word at `at`; `at` itself where something else stands, or the text's end.
-fn plain_end(text: &[u8], classes: &[u8; 256], at: usize) -> usize
+fn plain_end(text: &[u8], classes: &Classes, at: usize) -> usize
     requires { ⌜ now classes ≡ classTable ⌝ }
     ensures { λ r. ⌜ ScansOn (now (text .entry)) at r ⌝ }
 {
@@ -318,24 +342,17 @@ fn plain_end(text: &[u8], classes: &[u8; 256], at: usize) -> usize
         return at;
     }
     let class = class_at(text, classes, at);
-    if class == 9 {
-        return word_end(text, classes, at + 1);
+    match class {
+        NEWLINE..=MARK => at + 1,
+        BLANK..=HASH => passed(text, classes, at, class),
+        LETTER => word_end(text, classes, at + 1),
+        _ => at,
     }
-    if class < 3 {
-        return at + 1;
-    }
-    if class == 3 {
-        return at;
-    }
-    if class < 6 {
-        return passed(text, classes, at, class);
-    }
-    at
 }
 
 // Whether each byte of the text stands in a token, a blank or a comment, or which is the first that does not. Most of a text is blanks,
 // marks, separators and words, which are passed without a token being made of them.
-pub fn scan(text: &[u8], classes: &[u8; 256]) -> Scanned
+pub fn scan(text: &[u8], classes: &Classes) -> Scanned
     requires { ⌜ now classes ≡ classTable ⌝ }
     ensures { λ r. ⌜ r ≡ scanned (tokens (now (text .entry))) ⌝ }
 {
@@ -347,10 +364,10 @@ pub fn scan(text: &[u8], classes: &[u8; 256]) -> Scanned
         } else {
             let c = Cursor { at };
             let token = c.token_after_blanks(text, classes);
-            if token.kind == 2 {
+            if token.kind == BAD {
                 return Scanned::Stray(token.start);
             }
-            if token.kind == 3 {
+            if token.kind == END {
                 return Scanned::Whole;
             }
             let next = token.next;

@@ -1,3 +1,3 @@
-pub mod Readable
 pub mod Meaning
+pub mod Others
 pub mod Joining

@@ -1,38 +1,22 @@
--- A value whose arrays hold the lists of a statement stands for that statement, and its pairs are sorted.
+-- A value stands for the statement that was found: its arrays hold the lists that the statement has in the text.
 -- Assumes nothing.
-use mathlib.Core.Path.{_≡_, refl, _∙_, ap}
+use mathlib.Core.Path.{_≡_, refl, _∙_, ap, sym}
 use mathlib.Core.Bool.{true}
-use mathlib.Core.List.{List, [], _∷_, map}
+use mathlib.Core.List.{List, [], map}
 use Prim.Native.Nat.{ℕ}
-use lib.ListN.{take}
-use Rattle.labels.specs.declared.Family.{Family}
-use Rattle.labels.specs.declared.Family.the-variants.{
-  AbsorptionMode,
-  EliminationMode,
-  PeripheralKind,
-  DepotMode,
-  LagtimeMode,
-  CovariateEffect,
-  PdMode,
-  ProductionMode,
-  MetaboliteMode,
-  VariabilityEffect,
-  VariabilityLevel,
-}
+use lib.Dec.{lit≤}
+use lib.ListN.{length, take}
 use Rattle.reading.specs.Statement as statement
 use Rattle.reading.specs.Answer.{accepted}
-use Rattle.reading.specs.Argument.{firsts}
+use Rattle.reading.specs.Read.{readText}
+use Rattle.forms.specs.declared.Item.{Item}
 use Rattle.forms.specs.declared.Items.{Items}
-use Rattle.forms.specs.declared.Modes.{Modes}
-use Rattle.forms.specs.declared.Modes.the-variants as modes
 use Rattle.forms.specs.declared.Counts.{Counts}
 use Rattle.forms.specs.declared.Counts.the-variants as counts
 use Rattle.forms.specs.declared.TransitCounts.{TransitCounts}
 use Rattle.forms.specs.declared.TransitCounts.the-variants as transits
 use Rattle.forms.specs.declared.Operand.{Operand}
 use Rattle.forms.specs.declared.Operand.the-variants as operand
-use Rattle.forms.specs.declared.SomeModes.{SomeModes}
-use Rattle.forms.specs.declared.SomeModes.the-variants as someModes
 use Rattle.forms.specs.declared.Feature.{Feature}
 use Rattle.forms.specs.declared.Feature.the-variants.{
   Absorption,
@@ -52,104 +36,140 @@ use Rattle.forms.specs.declared.Feature.the-variants.{
 }
 use Rattle.forms.specs.declared.Statement.{Statement}
 use Rattle.forms.specs.declared.Statement.the-variants as form
-use Rattle.forms.specs.declared.Name.{Name}
-use Rattle.forms.specs.Items.{nameIn, itemsIn}
-use Rattle.forms.specs.Forms.{placesIn, valuesIn, modesIn, countsIn, transitsIn, operandIn, someModesIn, featureIn, statementIn}
+use Rattle.forms.specs.Items.{itemIn, listed, itemsIn}
+use Rattle.forms.specs.Forms.{valuesIn, countsIn, transitsIn, operandIn, featureIn, statementIn, featureBy, statementBy}
 use Rattle.forms.specs.Fits.{Listed}
-use Rattle.lists.specs.declared.ModeList.{ModeList}
-use Rattle.lists.specs.Lists.{pairsOf, itemAt, sorted, chosen}
-use Rattle.lists.proofs.Order.{items-ordered, ordered-sorted, ordered-items}
+use Rattle.lists.specs.Lists.{itemsFor, inOrder}
+use Rattle.lists.proofs.Order.{ordered-within, ordered-items, items-ordered}
+use Rattle.parts.specs.declared.Part.{Part}
+use Rattle.parts.specs.declared.Part.the-variants as part
+use Rattle.parts.specs.declared.Parts.{Parts}
+use Rattle.parts.specs.Apart.{featureApart, apart}
+use Rattle.parts.specs.Meaning.{PartFits, PartsFit}
+use Rattle.parts.proofs.Fitting.{statement-fits}
 use Rattle.statements.specs.declared.StatementAt.{StatementAt}
 use Rattle.statements.specs.declared.StatementAt.the-variants as found
-use Rattle.statements.specs.Answers.{statementAs}
+use Rattle.statements.specs.Answers.{statementAs, nthOf}
+use Rattle.statements.proofs.Found.{found-well}
 use Rattle.values.specs.declared.Value.{Value}
-use Rattle.values.specs.Lists.{operandList, countsList, transitsList, modesList, someModesList, featureLists, statementLists, foundLists, Readable}
-use Rattle.values.specs.Value.{modesWith, someModesWith, countsWith, transitsWith, operandWith, featureWith, statementWith, foundWith, valueAs, Sorted, Filled}
+use Rattle.values.specs.declared.Lists.{Lists}
+use Rattle.values.specs.Lists.{noItems, namesIn, partsLists, foundLists}
+use Rattle.values.specs.Lists as lists
+use Rattle.values.specs.Value.{countsWith, transitsWith, itemsWith, operandWith, inArrays, foundWith, valueAs, Usable, Filled}
 
--- Each list by itself.
+-- The lists of what was found can be read again.
+pub record Readable (s : List ℕ) (l : Lists) : Type 0 where
+  pub first : Listed s (l .first)
+  pub second : Listed s (l .second)
+  pub counts : Listed s (l .counts)
 
 module _ (s : List ℕ) where
-  modes-mean : (f : Family) (l : ModeList) (m : Modes) → chosen l ≡ firsts (placesIn f (itemsIn s (modesList m))) → modesWith l m ≡ modesIn s f m
-  unfolding modesIn
-  modes-mean f l modes.Wildcard e = refl
-  modes-mean f l (modes.List is) e = ap statement.modes e
+  none-listed : Listed s noItems
+  unfolding listed
+  none-listed = record { are = refl; few = lit≤ tt }
 
-  some-modes-mean :
-      (f : Family) (l : ModeList) (m : SomeModes)
-      → chosen l ≡ firsts (placesIn f (itemsIn s (someModesList m)))
-      → someModesWith l m ≡ someModesIn s f m
-  unfolding someModesIn
-  some-modes-mean f l someModes.Absent e = refl
-  some-modes-mean f l (someModes.Given m) e = rw (modes-mean f l m e)
+  names-listed : (p : Part) → PartFits s p → Listed s (namesIn p)
+  names-listed (part.Operand (operand.Names is)) f = f
+  names-listed (part.Operand (operand.Symbol n)) f = none-listed
+  names-listed (part.Operand operand.Wildcard) f = none-listed
+  names-listed (part.Values is) f = f
+  names-listed (part.Counts c) f = none-listed
+  names-listed (part.Modes g m) f = none-listed
+  names-listed (part.Name n) f = none-listed
+  names-listed (part.Op op) f = none-listed
+  names-listed part.N f = none-listed
+  names-listed part.Absent f = none-listed
+  names-listed part.Omitted f = none-listed
 
-  counts-mean : (vs : List ℕ) (c : Counts) → take (countsList c .count) vs ≡ valuesIn (itemsIn s (countsList c)) → countsWith vs c ≡ countsIn s c
-  unfolding countsIn
-  counts-mean vs (counts.Single v) e = refl
-  counts-mean vs (counts.Range a b) e = refl
-  counts-mean vs (counts.List is) e = ap statement.counts e
+  counts-listed : (p : Part) → PartFits s p → Listed s (lists.countsIn p)
+  counts-listed (part.Counts (counts.List is)) f = f
+  counts-listed (part.Counts (counts.Single v)) f = none-listed
+  counts-listed (part.Counts (counts.Range a b)) f = none-listed
+  counts-listed (part.Operand p) f = none-listed
+  counts-listed (part.Values is) f = none-listed
+  counts-listed (part.Modes g m) f = none-listed
+  counts-listed (part.Name n) f = none-listed
+  counts-listed (part.Op op) f = none-listed
+  counts-listed part.N f = none-listed
+  counts-listed part.Absent f = none-listed
+  counts-listed part.Omitted f = none-listed
 
-  transits-mean :
-      (vs : List ℕ) (c : TransitCounts) → take (transitsList c .count) vs ≡ valuesIn (itemsIn s (transitsList c)) → transitsWith vs c ≡ transitsIn s c
-  unfolding transitsIn
-  transits-mean vs transits.N e = refl
-  transits-mean vs (transits.Counts c) e = ap statement.counted (counts-mean vs c e)
+  pub found-readable : (limit i : ℕ) (f : StatementAt) → statementAs s f ≡ nthOf i (readText limit s) → Readable s (foundLists f)
+  unfolding statementAs
+  found-readable limit i (found.Statement st) e =
+      let p = statement-fits limit s st (found-well limit s i (statementIn s st) e) in
+      record {
+        first = names-listed (apart st .first) (p .first);
+        second = names-listed (apart st .second) (p .second);
+        counts = counts-listed (apart st .first) (p .first);
+      }
+  found-readable limit i (found.Refused r) e = record { first = none-listed; second = none-listed; counts = none-listed }
 
-  -- the entries that pairs stand for
-  items-again : (is : Items) (ns : List Name) → Listed s is → take (is .count) ns ≡ pairsOf (itemsIn s is) → map (itemAt s) (take (is .count) ns) ≡ itemsIn s is
-  items-again is ns l e = ap (map (itemAt s)) e ∙ ordered-items (items-ordered s is l)
+  -- the entries of a list, from an array that holds them
+  module _ (xs : List Item) (is : Items) (l : Listed s is) (e : take (is .count) xs ≡ itemsFor (itemsIn s is)) where
+    items-mean : itemsWith s xs (is .count) ≡ itemsIn s is
+    items-mean = ap (map (itemIn s)) e ∙ ordered-items (items-ordered s is l)
 
-  names-of-items : (ns : List Name) → map (nameIn s) ns ≡ map (λ i. i .name) (map (itemAt s) ns)
-  names-of-items [] = refl
-  names-of-items (n ∷ ns) = ap (λ (l : List statement.Name). nameIn s n ∷ l) (names-of-items ns)
+    items-within : inOrder (length s) (take (is .count) xs) ≡ true
+    items-within = ap (inOrder (length s)) e ∙ ordered-within (items-ordered s is l)
 
-  operand-mean :
-      (ns : List Name) (p : Operand)
-      → Listed s (operandList p)
-      → take (operandList p .count) ns ≡ pairsOf (itemsIn s (operandList p))
-      → operandWith s ns p ≡ operandIn s p
-  unfolding operandIn
-  operand-mean ns operand.Wildcard l e = refl
-  operand-mean ns (operand.Symbol n) l e = refl
-  operand-mean ns (operand.Names is) l e =
-      ap statement.names (names-of-items (take (is .count) ns) ∙ ap (map (λ (i : statement.Item). i .name)) (items-again is ns l e))
+  module _ (v : Value) (l : Lists) (r : Readable s l) (h : Filled s l v) where
+    operand-means :
+        (xs : List Item) (p : Operand)
+        → Listed s (namesIn (part.Operand p))
+        → take (namesIn (part.Operand p) .count) xs ≡ itemsFor (itemsIn s (namesIn (part.Operand p)))
+        → operandWith s xs p ≡ operandIn s p
+    unfolding operandIn
+    operand-means xs operand.Wildcard k e = refl
+    operand-means xs (operand.Symbol n) k e = refl
+    operand-means xs (operand.Names is) k e = ap (λ (ys : List statement.Item). statement.names (map (λ i. i .name) ys)) (items-mean xs is k e)
 
-  sorted-again : (is : Items) (ns : List Name) → Listed s is → take (is .count) ns ≡ pairsOf (itemsIn s is) → sorted (take (is .count) ns) ≡ true
-  sorted-again is ns l e = ap sorted e ∙ ordered-sorted (items-ordered s is l)
+    counts-mean :
+        (c : Counts)
+        → take (lists.countsIn (part.Counts c) .count) (v .counts) ≡ valuesIn (itemsIn s (lists.countsIn (part.Counts c)))
+        → countsWith (v .counts) c ≡ countsIn s c
+    unfolding countsIn
+    counts-mean (counts.Single x) e = refl
+    counts-mean (counts.Range a b) e = refl
+    counts-mean (counts.List is) e = ap statement.counts e
 
-  -- A feature, a statement, and what was found.
+    feature-means : (f : Feature) → l ≡ partsLists (featureApart f) → featureBy (inArrays s v) f ≡ featureIn s f
+    unfolding featureIn featureApart transitsIn
+    feature-means (Absorption m) e = refl
+    feature-means (Elimination m) e = refl
+    feature-means (Peripherals c k) e = simp (counts-mean c (rw e at (h .counts)))
+    feature-means (Transits transits.N d) e = refl
+    feature-means (Transits (transits.Counts c) d) e = simp (counts-mean c (rw e at (h .counts)))
+    feature-means (Lagtime m) e = refl
+    feature-means (Covariate o p c m op) e =
+        simp (operand-means (v .first) p (rw e at (r .first)) (rw e at (h .first)), operand-means (v .second) c (rw e at (r .second)) (rw e at (h .second)))
+    feature-means (Allometry n m) e = refl
+    feature-means (DirectEffect m) e = refl
+    feature-means (EffectComp m) e = refl
+    feature-means (IndirectEffect m p) e = refl
+    feature-means (Metabolite m) e = refl
+    feature-means (Iiv o p m) e = simp (operand-means (v .first) p (rw e at (r .first)) (rw e at (h .first)))
+    feature-means (Iov o p m) e = simp (operand-means (v .first) p (rw e at (r .first)) (rw e at (h .first)))
+    feature-means (Covariance o m p) e = simp (operand-means (v .second) p (rw e at (r .second)) (rw e at (h .second)))
 
-  feature-means : (v : Value) (f : Feature) → Readable s (featureLists f) → Filled s (featureLists f) v → featureWith s v f ≡ featureIn s f
-  unfolding featureWith featureIn featureLists
-  feature-means v (Absorption m) r h = rw (modes-mean AbsorptionMode (v .modes) m (h .modes))
-  feature-means v (Elimination m) r h = rw (modes-mean EliminationMode (v .modes) m (h .modes))
-  feature-means v (Peripherals c k) r h = rw (counts-mean (v .counts) c (h .counts), some-modes-mean PeripheralKind (v .modes) k (h .modes))
-  feature-means v (Transits c d) r h = rw (transits-mean (v .counts) c (h .counts), some-modes-mean DepotMode (v .modes) d (h .modes))
-  feature-means v (Lagtime m) r h = rw (modes-mean LagtimeMode (v .modes) m (h .modes))
-  feature-means v (Covariate o p c m op) r h =
-      rw (operand-mean (v .names) p (r .names) (h .names), operand-mean (v .covariates) c (r .covariates) (h .covariates), modes-mean CovariateEffect (v .modes) m (h .modes))
-  feature-means v (Allometry c x) r h = refl
-  feature-means v (DirectEffect m) r h = rw (modes-mean PdMode (v .modes) m (h .modes))
-  feature-means v (EffectComp m) r h = rw (modes-mean PdMode (v .modes) m (h .modes))
-  feature-means v (IndirectEffect m p) r h = rw (modes-mean PdMode (v .modes) m (h .modes), modes-mean ProductionMode (v .second) p (h .second))
-  feature-means v (Metabolite m) r h = rw (modes-mean MetaboliteMode (v .modes) m (h .modes))
-  feature-means v (Iiv o p m) r h = rw (operand-mean (v .names) p (r .names) (h .names), modes-mean VariabilityEffect (v .modes) m (h .modes))
-  feature-means v (Iov o p m) r h = rw (operand-mean (v .names) p (r .names) (h .names), modes-mean VariabilityEffect (v .modes) m (h .modes))
-  feature-means v (Covariance o m p) r h = rw (operand-mean (v .names) p (r .names) (h .names), modes-mean VariabilityLevel (v .modes) m (h .modes))
+    statement-means : (st : Statement) → l ≡ partsLists (apart st) → statementBy (inArrays s v) st ≡ statementIn s st
+    unfolding statementIn apart
+    statement-means (form.Let n is) e = simp (items-mean (v .second) is (rw e at (r .second)) (rw e at (h .second)))
+    statement-means (form.Feature f) e = ap statement.feature (feature-means f e)
 
-  statement-means : (v : Value) (f : Statement) → Readable s (statementLists f) → Filled s (statementLists f) v → statementWith s v f ≡ statementIn s f
-  unfolding statementWith statementIn statementLists
-  statement-means v (form.Let n is) r h = rw (items-again is (v .names) (r .names) (h .names))
-  statement-means v (form.Feature f) r h = ap statement.feature (feature-means v f r h)
-
-  pub found-means : (v : Value) (f : StatementAt) → v .found ≡ f → Readable s (foundLists f) → Filled s (foundLists f) v → valueAs s v ≡ statementAs s f
-  unfolding foundWith statementAs foundLists
-  found-means v (found.Statement f) e r h = ap (foundWith s v) e ∙ ap accepted (statement-means v f r h)
+  -- A value stands for what was found.
+  pub found-means :
+      (v : Value) (f : StatementAt) → v .found ≡ f → Readable s (foundLists f) → Filled s (foundLists f) v → valueAs s v ≡ statementAs s f
+  unfolding foundWith statementAs
+  found-means v (found.Statement st) e r h = ap (foundWith s v) e ∙ ap accepted (statement-means v (partsLists (apart st)) r h st refl)
   found-means v (found.Refused x) e r h = ap (foundWith s v) e
 
-  pub found-sorted : (v : Value) (f : StatementAt) → v .found ≡ f → Readable s (foundLists f) → Filled s (foundLists f) v → Sorted v
-  found-sorted v f e r h =
-      rw e
-      (record {
-        names = sorted-again (foundLists f .names) (v .names) (r .names) (h .names);
-        covariates = sorted-again (foundLists f .covariates) (v .covariates) (r .covariates) (h .covariates);
-      })
+  -- Its lists can be used as they stand.
+  pub found-usable : (v : Value) (f : StatementAt) → v .found ≡ f → Readable s (foundLists f) → Filled s (foundLists f) v → Usable s v
+  found-usable v f e r h = record {
+    few-first = rw e (r .first .few);
+    few-second = rw e (r .second .few);
+    few-counts = rw e (r .counts .few);
+    first = rw e (items-within (v .first) (foundLists f .first) (r .first) (h .first));
+    second = rw e (items-within (v .second) (foundLists f .second) (r .second) (h .second));
+  }

@@ -11,6 +11,7 @@ use lib.Dec.{lit≤}
 use lib.ListN.{length}
 use denote.Ref.{now}
 use Rattle.tokens.specs.Token.{Tokens}
+use Rattle.tokens.specs.Next.{cursor}
 use Rattle.reading.specs.Statement.{Item}
 use Rattle.reading.specs.Argument as argument
 use Rattle.reading.specs.Syntax.{Call, turn, arrayOpen, item, argumentRead}
@@ -34,10 +35,10 @@ record Gone (s : List ℕ) (p o n cur : ℕ) : Type 0 where
   same : (limit : ℕ) (c : Call) → readIn limit s (arrayOpen c p) o ≡ readIn limit s (item c p (entries n (tokensFrom s o))) cur
 
 abbrev Inv-loop : tie.InvT-loop
-Inv-loop text classes bracket at n₀ cur₀ n cur = Gone text bracket at n cur
+Inv-loop text classes bracket cur n₀ from₀ n from = Gone text bracket (cur .at) n (from .at)
 
 abbrev μ-loop : tie.MeasureT-loop
-μ-loop text classes bracket at n₀ cur₀ n cur = length text - cur
+μ-loop text classes bracket cur n₀ from₀ n from = length text - from .at
 
 -- one entry more, behind which the array goes on or ends
 module _ (s : List ℕ) (p o n cur : ℕ) (g : Gone s p o n cur) (r : Entry)
@@ -59,7 +60,7 @@ module _ (s : List ℕ) (p o n cur : ℕ) (g : Gone s p o n cur) (r : Entry)
     on : (limit : ℕ) (c : Call) → readIn limit s (arrayOpen c p) o ≡ entryThen limit s c p (entries n (tokensFrom s o) ++ entries 1 (tokensFrom s cur)) r
     on limit c = g .same limit c ∙ is limit c p (entries n (tokensFrom s o)) (entries-length n (tokensFrom s o) (g .are))
 
-here : (d : tie.After-token Inv-loop μ-loop) → Known (now (d .before .before .args .text)) (d .before .before .args .at) (d .token .result)
+here : (d : tie.After-token Inv-loop μ-loop) → Known (now (d .before .before .args .text)) (d .before .before .args .cur .at) (d .token .result)
 here d = known _ _ (d .token .result) (d .token .ensures)
 
 token-requires : tie.Need-token-requires Inv-loop μ-loop
@@ -100,8 +101,8 @@ add-n c =
     let l = d .before in
     let s = now (l .before .before .before .before .before .before .args .text) in
     let p = l .before .before .before .before .before .before .args .bracket in
-    let o = l .before .before .before .before .before .before .args .at in
-    let f = subst (EntryFurther s (l .loop .cur) _) (x .1) (d .read-entry .ensures .1 .0) in
+    let o = l .before .before .before .before .before .before .args .cur .at in
+    let f = subst (EntryFurther s (l .loop .from .at) _) (x .1) (d .read-entry .ensures .1 .0) in
     omega (arith, f .0, f .1, l .loop .inv .few)
 
 loop-less : tie.Need-loop-less Inv-loop μ-loop
@@ -112,8 +113,8 @@ loop-less c =
     let l = d .before in
     let s = now (l .before .before .before .before .before .before .args .text) in
     let p = l .before .before .before .before .before .before .args .bracket in
-    let o = l .before .before .before .before .before .before .args .at in
-    let f = subst (EntryFurther s (l .loop .cur) _) (x .1) (d .read-entry .ensures .1 .0) in
+    let o = l .before .before .before .before .before .before .args .cur .at in
+    let f = subst (EntryFurther s (l .loop .from .at) _) (x .1) (d .read-entry .ensures .1 .0) in
     omega (arith, f .0, f .1)
 
 loop-again : tie.Need-loop-again Inv-loop μ-loop
@@ -124,12 +125,12 @@ loop-again c =
     let l = d .before in
     let s = now (l .before .before .before .before .before .before .args .text) in
     let p = l .before .before .before .before .before .before .args .bracket in
-    let o = l .before .before .before .before .before .before .args .at in
-    let f = subst (EntryFurther s (l .loop .cur) _) (x .1) (d .read-entry .ensures .1 .0) in
-    let e = subst (EntryListed s (l .loop .cur) (l .loop .n)) (x .1) (d .read-entry .ensures .1 .1) in
+    let o = l .before .before .before .before .before .before .args .cur .at in
+    let f = subst (EntryFurther s (l .loop .from .at) _) (x .1) (d .read-entry .ensures .1 .0) in
+    let e = subst (EntryListed s (l .loop .from .at) (l .loop .n)) (x .1) (d .read-entry .ensures .1 .1) in
     let g = l .loop .inv in
     let n = l .loop .n in
-    let cur = l .loop .cur in
+    let cur = l .loop .from .at in
     record {
       are = more-listed s p o n cur g (d .read-entry .result) (d .read-entry .ensures .0) (e .0);
       behind =
@@ -141,23 +142,23 @@ loop-again c =
       past = omega (arith, f .0, g .past);
       same = λ limit call.
           on s p o n cur g (d .read-entry .result) (d .read-entry .ensures .0) limit call
-          ∙ ap (entryThen limit s call p (entries (l .loop .n) (tokensFrom s o) ++ entries 1 (tokensFrom s (l .loop .cur)))) (x .1)
+          ∙ ap (entryThen limit s call p (entries (l .loop .n) (tokensFrom s o) ++ entries 1 (tokensFrom s (l .loop .from .at)))) (x .1)
           ∙ ap (λ (items : List Item). readIn limit s (item call p items) (x .0 .0 .at)) (all s p o n cur g (d .read-entry .result) (d .read-entry .ensures .0) (e .0));
     }
 
 enum-known-c-2 : tie.Need-enum-known-c-2 Inv-loop μ-loop
 enum-known-c-2 c = search needs
 
-add-t17 : tie.Need-add-t17 Inv-loop μ-loop
+add-count : tie.Need-add-count Inv-loop μ-loop
 unfolding EntryFurther
-add-t17 c =
+add-count c =
     let x = c .before .c2 .given in
     let d = c .before .before .before in
     let l = d .before in
     let s = now (l .before .before .before .before .before .before .args .text) in
     let p = l .before .before .before .before .before .before .args .bracket in
-    let o = l .before .before .before .before .before .before .args .at in
-    let f = subst (EntryFurther s (l .loop .cur) _) (x .1) (d .read-entry .ensures .1 .0) in
+    let o = l .before .before .before .before .before .before .args .cur .at in
+    let f = subst (EntryFurther s (l .loop .from .at) _) (x .1) (d .read-entry .ensures .1 .0) in
     omega (arith, f .0, f .1, l .loop .inv .few)
 
 returns-2 : tie.Need-returns-2 Inv-loop μ-loop
@@ -168,17 +169,17 @@ returns-2 c =
     let l = d .before in
     let s = now (l .before .before .before .before .before .before .args .text) in
     let p = l .before .before .before .before .before .before .args .bracket in
-    let o = l .before .before .before .before .before .before .args .at in
-    let f = subst (EntryFurther s (l .loop .cur) _) (x .1) (d .read-entry .ensures .1 .0) in
-    let e = subst (EntryListed s (l .loop .cur) (l .loop .n)) (x .1) (d .read-entry .ensures .1 .1) in
+    let o = l .before .before .before .before .before .before .args .cur .at in
+    let f = subst (EntryFurther s (l .loop .from .at) _) (x .1) (d .read-entry .ensures .1 .0) in
+    let e = subst (EntryListed s (l .loop .from .at) (l .loop .n)) (x .1) (d .read-entry .ensures .1 .1) in
     let g = l .loop .inv in
     let n = l .loop .n in
-    let cur = l .loop .cur in
-    let whole : Listed s (record { first = o; count = n + 1 }) =
+    let cur = l .loop .from .at in
+    let whole : Listed s (record { first = cursor o; count = n + 1 }) =
     record { are = more-listed s p o n cur g (d .read-entry .result) (d .read-entry .ensures .0) (e .0); few = omega (arith, e .1) } in (
       (λ limit call.
           on s p o n cur g (d .read-entry .result) (d .read-entry .ensures .0) limit call
-          ∙ ap (entryThen limit s call p (entries (l .loop .n) (tokensFrom s o) ++ entries 1 (tokensFrom s (l .loop .cur)))) (x .1)
+          ∙ ap (entryThen limit s call p (entries (l .loop .n) (tokensFrom s o) ++ entries 1 (tokensFrom s (l .loop .from .at)))) (x .1)
           ∙ ap (λ (items : List Item). readIn limit s (argumentRead call (argument.array p items)) (x .0 .0 .at))
           (all s p o n cur g (d .read-entry .result) (d .read-entry .ensures .0) (e .0) ∙ sym (items-are s _ whole))),
       (omega (arith, f .0, g .past), f .1, whole),
@@ -195,9 +196,9 @@ returns-3 c =
     let l = d .before in
     let s = now (l .before .before .before .before .before .before .args .text) in
     let p = l .before .before .before .before .before .before .args .bracket in
-    let o = l .before .before .before .before .before .before .args .at in
+    let o = l .before .before .before .before .before .before .args .cur .at in
     let g = l .loop .inv in
-    ((λ limit call. on s p o (l .loop .n) (l .loop .cur) g (d .read-entry .result) (d .read-entry .ensures .0) limit call ∙ ap (entryThen limit s call p (entries (l .loop .n) (tokensFrom s o) ++ entries 1 (tokensFrom s (l .loop .cur)))) (x .1)), tt)
+    ((λ limit call. on s p o (l .loop .n) (l .loop .from .at) g (d .read-entry .result) (d .read-entry .ensures .0) limit call ∙ ap (entryThen limit s call p (entries (l .loop .n) (tokensFrom s o) ++ entries 1 (tokensFrom s (l .loop .from .at)))) (x .1)), tt)
 
 pub array-spec : {M : Type 1} → statement M
 array-spec =
@@ -214,7 +215,7 @@ array-spec =
     loop-less
     loop-again
     enum-known-c-2
-    add-t17
+    add-count
     returns-2
     enum-known-r
     returns-3)

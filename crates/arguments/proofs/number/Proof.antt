@@ -19,7 +19,7 @@ use Rattle.arguments.proofs.number.Statement.{statement}
 use Rattle.arguments.proofs.number.Tie as tie
 
 -- what the kinds of the two tokens tell
-here : (d : tie.After-token) → Known (now (d .before .before .args .text)) (d .before .before .args .at) (d .token .result)
+here : (d : tie.After-token) → Known (now (d .before .before .args .text)) (d .before .before .args .cur .at) (d .token .result)
 here d = known _ _ (d .token .result) (d .token .ensures)
 
 beyond :
@@ -84,7 +84,7 @@ returns-3 c =
           ∙ ap (λ (h : Name). stepIn (a .limit) s (rangeRead call (rangeOf (a .limit) n h)) (d .token2 .result .next .at))
           (same-name s (d .token2 .result) (c .before .before .named .ensures))
           ∙ c .range-of .ensures .0 call),
-      further s (a .at) _ (c .range-of .result) (omega (arith, r .ahead, r .wide, q .ahead, q .wide)) (c .range-of .ensures .1),
+      further s (a .cur .at) _ (c .range-of .result) (omega (arith, r .ahead, r .wide, q .ahead, q .wide)) (c .range-of .ensures .1),
     )
 
 pub number-spec : {M : Type 1} → statement M

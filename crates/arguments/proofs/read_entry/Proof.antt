@@ -16,11 +16,11 @@ use Rattle.arguments.proofs.read_entry.Statement.{statement}
 use Rattle.arguments.proofs.read_entry.Tie as tie
 
 -- what the token's kind tells
-here : (d : tie.After-token) → Known (now (d .before .before .args .text)) (d .before .before .args .at) (d .token .result)
+here : (d : tie.After-token) → Known (now (d .before .before .args .text)) (d .before .before .args .cur .at) (d .token .result)
 here d = known _ _ (d .token .result) (d .token .ensures)
 
 -- an entry stands here
-stands : (d : tie.Else1) → EntryAt (now (d .before .before .before .before .before .args .text)) (d .before .before .before .before .before .args .at) (d .before .before .before .token .result)
+stands : (d : tie.Else1) → EntryAt (now (d .before .before .before .before .before .args .text)) (d .before .before .before .before .before .args .cur .at) (d .before .before .before .token .result)
 stands d = entry-at (here (d .before .before .before)) (d .if1 .left)
 
 token-requires : tie.Need-token-requires
@@ -51,7 +51,7 @@ returns-3 : tie.Need-returns-3
 returns-3 c =
     let b = c .before .before in
     let s = now (b .before .before .before .before .before .args .text) in
-    let o = b .before .before .before .before .before .args .at in (
+    let o = b .before .before .before .before .before .args .cur .at in (
       (λ limit call p items l.
           taken (stands b) limit call p items (omega (arith, l, c .before .if2 .left))
           ∙ c .after-entry .ensures .0 limit call p (items ++ entries 1 (tokensFrom s o))),

@@ -5,34 +5,13 @@ use borrow.Author.Needs.{needs}
 use Rattle.checks.proofs.is_n.Statement.{statement}
 use Rattle.checks.proofs.is_n.Tie as tie
 
-enum-known-arg : tie.Need-enum-known-arg
-enum-known-arg c = search needs
-
 spells-n-requires : tie.Need-spells-n-requires
 unfolding Fits
 spells-n-requires c κs = (rw (c .before .arg .given .1) at (c .before .before .before .before .pre)) .inside
 
-enum-known-arg-2 : tie.Need-enum-known-arg-2
-enum-known-arg-2 c = search needs
-
 spells-n-requires-2 : tie.Need-spells-n-requires-2
 unfolding Fits
 spells-n-requires-2 c κs = (rw (c .before .arg2 .given .1) at (c .before .before .before .before .pre)) .inside
-
-enum-told : tie.Need-enum-told
-enum-told c = search needs
-
-enum-told-2 : tie.Need-enum-told-2
-enum-told-2 c = search needs
-
-enum-told-3 : tie.Need-enum-told-3
-enum-told-3 c = search needs
-
-enum-told-4 : tie.Need-enum-told-4
-enum-told-4 c = search needs
-
-enum-told-5 : tie.Need-enum-told-5
-enum-told-5 c = search needs
 
 returns : tie.Need-returns
 unfolding argIn
@@ -66,15 +45,15 @@ pub is-n-spec : {M : Type 1} → statement M
 is-n-spec =
     tie.close
     (tie.spec
-    enum-known-arg
+    (λ c. search needs)
     spells-n-requires
-    enum-known-arg-2
+    (λ c. search needs)
     spells-n-requires-2
-    enum-told
-    enum-told-2
-    enum-told-3
-    enum-told-4
-    enum-told-5
+    (λ c. search needs)
+    (λ c. search needs)
+    (λ c. search needs)
+    (λ c. search needs)
+    (λ c. search needs)
     returns
     returns-2
     returns-3

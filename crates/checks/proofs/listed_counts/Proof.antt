@@ -19,23 +19,11 @@ filled c =
     let a = c .before .before .before .args in
     listed-some (now (a .text)) (a .items) (c .before .before .before .pre .1) (c .if1 .left)
 
-wrong-requires : tie.Need-wrong-requires
-wrong-requires c κs = search needs
-
 returns : tie.Need-returns
 unfolding countsAs countsOf entries
 returns c =
     let a = c .before .before .before .before .args in
     rw (c .wrong .ensures, no-items (now (a .text)) (a .items) (c .before .if1 .taken))
-
-check-counts-requires : tie.Need-check-counts-requires
-check-counts-requires c κs = search needs
-
-enum-told : tie.Need-enum-told
-enum-told c = search needs
-
-enum-known-r : tie.Need-enum-known-r
-enum-known-r c = search needs
 
 returns-2 : tie.Need-returns-2
 unfolding countsAs countsIn checkedAs
@@ -53,10 +41,10 @@ pub listed-counts-spec : {M : Type 1} → statement M
 listed-counts-spec =
     tie.close
     (tie.spec
-    wrong-requires
+    (λ c κs. search needs)
     returns
-    check-counts-requires
-    enum-told
-    enum-known-r
+    (λ c κs. search needs)
+    (λ c. search needs)
+    (λ c. search needs)
     returns-2
     returns-3)

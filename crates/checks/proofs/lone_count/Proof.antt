@@ -7,15 +7,6 @@ use borrow.Author.Needs.{needs}
 use Rattle.checks.proofs.lone_count.Statement.{statement}
 use Rattle.checks.proofs.lone_count.Tie as tie
 
-count-at-requires : tie.Need-count-at-requires
-count-at-requires c κs = search needs
-
-enum-known-value : tie.Need-enum-known-value
-enum-known-value c = search needs
-
-enum-told : tie.Need-enum-told
-enum-told c = search needs
-
 returns : tie.Need-returns
 unfolding countsAs countsIn countAt
 returns c = rw (sym (c .before .before .before .count-at .ensures) ∙ c .before .value .given .1)
@@ -26,4 +17,4 @@ returns-2 c = rw (sym (c .before .before .count-at .ensures) ∙ c .enum-told .g
 
 pub lone-count-spec : {M : Type 1} → statement M
 lone-count-spec =
-    tie.close (tie.spec count-at-requires enum-known-value enum-told returns returns-2)
+    tie.close (tie.spec (λ c κs. search needs) (λ c. search needs) (λ c. search needs) returns returns-2)

@@ -11,21 +11,6 @@ use borrow.Author.Needs.{needs}
 use Rattle.checks.proofs.mode_at.Statement.{statement}
 use Rattle.checks.proofs.mode_at.Tie as tie
 
-add-end : tie.Need-add-end
-add-end c = search needs
-
-sub-find-mode : tie.Need-sub-find-mode
-sub-find-mode c = search needs
-
-part-find-mode-start : tie.Need-part-find-mode-start
-part-find-mode-start c = search needs
-
-part-find-mode-end : tie.Need-part-find-mode-end
-part-find-mode-end c = search needs
-
-find-mode-requires : tie.Need-find-mode-requires
-find-mode-requires c κs = search needs
-
 returns : tie.Need-returns
 returns c =
     let a = c .before .before .before .before .args in
@@ -37,9 +22,9 @@ pub mode-at-spec : {M : Type 1} → statement M
 mode-at-spec =
     tie.close
     (tie.spec
-    add-end
-    sub-find-mode
-    part-find-mode-start
-    part-find-mode-end
-    find-mode-requires
+    (λ c. search needs)
+    (λ c. search needs)
+    (λ c. search needs)
+    (λ c. search needs)
+    (λ c κs. search needs)
     returns)

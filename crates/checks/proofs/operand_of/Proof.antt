@@ -1,4 +1,5 @@
--- `checks::operand_of` meets its contract, variant by variant. Assumes nothing.
+-- `checks::operand_of` meets its contract: `*`, a symbol, names, or what is refused at its place. Assumes nothing.
+use mathlib.Core.Path.{sym}
 use Rattle.reading.specs.Argument.{operandOf}
 use Rattle.forms.specs.Items.{entries}
 use Rattle.forms.specs.Forms.{argIn, operandIn}
@@ -7,45 +8,14 @@ use Rattle.checks.specs.Answers.{operandAs}
 use Rattle.forms.proofs.Lists.{no-items, stands-one}
 use Rattle.checks.proofs.Entries.{listed-some}
 use Rattle.checks.proofs.Arguments.{operand-array}
+use Rattle.checks.proofs.Others.{no-operand}
 use borrow.Author.Needs.{needs}
 use Rattle.checks.proofs.operand_of.Statement.{statement}
 use Rattle.checks.proofs.operand_of.Tie as tie
 
-enum-told : tie.Need-enum-told
-enum-told c = search needs
-
-enum-known-arg : tie.Need-enum-known-arg
-enum-known-arg c = search needs
-
-wrong-requires : tie.Need-wrong-requires
-wrong-requires c κs = search needs
-
-enum-known-arg-2 : tie.Need-enum-known-arg-2
-enum-known-arg-2 c = search needs
-
-enum-known-arg-3 : tie.Need-enum-known-arg-3
-enum-known-arg-3 c = search needs
-
-enum-known-arg-4 : tie.Need-enum-known-arg-4
-enum-known-arg-4 c = search needs
-
-enum-known-arg-5 : tie.Need-enum-known-arg-5
-enum-known-arg-5 c = search needs
-
-wrong-requires-2 : tie.Need-wrong-requires-2
-wrong-requires-2 c κs = search needs
-
-enum-known-arg-6 : tie.Need-enum-known-arg-6
-enum-known-arg-6 c = search needs
-
-wrong-requires-3 : tie.Need-wrong-requires-3
-wrong-requires-3 c κs = search needs
-
 returns : tie.Need-returns
 unfolding operandAs operandIn operandOf argIn entries
-returns c = λ s h.
-    let e = c .before .before .before .before .arg6 .given in
-    rw (e .1, c .wrong3 .ensures, no-items s (e .0 .1 .0) (c .before .if1 .taken))
+returns c = λ s h. let e = c .before .before .before .before .arg4 .given in rw (e .1, c .wrong .ensures, no-items s (e .0 .1 .0) (c .before .if1 .taken))
 
 returns-2 : tie.Need-returns-2
 unfolding operandAs operandIn operandOf argIn
@@ -53,49 +23,42 @@ returns-2 c = λ s h. rw (c .enum-told .given .1)
 
 returns-3 : tie.Need-returns-3
 unfolding operandAs operandIn operandOf argIn
-returns-3 c = λ s h. rw (c .before .before .arg .given .1, c .wrong .ensures)
+returns-3 c = λ s h. rw (c .before .arg .given .1)
 
 returns-4 : tie.Need-returns-4
-unfolding operandAs operandIn operandOf argIn
-returns-4 c = λ s h. rw (c .before .arg2 .given .1)
+unfolding operandAs operandIn operandOf argIn Fits
+returns-4 c = λ s h. let e = c .before .before .arg2 .given in rw (e .1, c .alone .ensures, stands-one (rw (e .1) at h))
 
 returns-5 : tie.Need-returns-5
 unfolding operandAs operandIn operandOf argIn Fits
-returns-5 c = λ s h. let e = c .before .arg3 .given in rw (e .1, stands-one (rw (e .1) at h))
+returns-5 c = λ s h. let e = c .before .before .arg3 .given in rw (e .1, c .alone2 .ensures, stands-one (rw (e .1) at h))
 
 returns-6 : tie.Need-returns-6
-unfolding operandAs operandIn operandOf argIn Fits
-returns-6 c = λ s h. let e = c .before .arg4 .given in rw (e .1, stands-one (rw (e .1) at h))
+unfolding operandAs operandIn argIn Fits
+returns-6 c = λ s h. let e = c .before .before .before .arg4 .given in rw (e .1, operand-array (listed-some s (e .0 .1 .0) (rw (e .1) at h) (c .if1 .left)))
 
 returns-7 : tie.Need-returns-7
-unfolding operandAs operandIn operandOf argIn
-returns-7 c = λ s h. rw (c .before .before .arg5 .given .1, c .wrong2 .ensures)
-
-returns-8 : tie.Need-returns-8
-unfolding operandAs operandIn argIn Fits
-returns-8 c = λ s h.
-    let e = c .before .before .before .arg6 .given in
-    rw (e .1, operand-array (listed-some s (e .0 .1 .0) (rw (e .1) at h) (c .if1 .left)))
+unfolding operandAs
+returns-7 c = λ s h. rw (c .wrong2 .ensures, c .before .place-of .ensures s) (sym (no-operand s _ (c .before .before .match .keys6)))
 
 pub operand-of-spec : {M : Type 1} → statement M
 operand-of-spec =
     tie.close
     (tie.spec
-    enum-told
-    enum-known-arg
-    wrong-requires
-    enum-known-arg-2
-    enum-known-arg-3
-    enum-known-arg-4
-    enum-known-arg-5
-    wrong-requires-2
-    enum-known-arg-6
-    wrong-requires-3
+    (λ c. search needs)
+    (λ c. search needs)
+    (λ c. search needs)
+    (λ c κs. search needs)
+    (λ c. search needs)
+    (λ c κs. search needs)
+    (λ c. search needs)
+    (λ c κs. search needs)
     returns
+    (λ c κs. search needs)
+    (λ c κs. search needs)
     returns-2
     returns-3
     returns-4
     returns-5
     returns-6
-    returns-7
-    returns-8)
+    returns-7)

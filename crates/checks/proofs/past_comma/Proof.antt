@@ -6,14 +6,11 @@ use Rattle.checks.proofs.Entries.{behind}
 use Rattle.checks.proofs.past_comma.Statement.{statement}
 use Rattle.checks.proofs.past_comma.Tie as tie
 
-token-requires : tie.Need-token-requires
-token-requires c κs = search needs
-
 returns : tie.Need-returns
 returns c =
     let a = c .before .before .before .args in
     let t = c .before .token in
-    behind (now (a .text)) (a .at) (t .result) (known (now (a .text)) (a .at) (t .result) (t .ensures))
+    behind (now (a .text)) (a .cur .at) (t .result) (known (now (a .text)) (a .cur .at) (t .result) (t .ensures))
 
 pub past-comma-spec : {M : Type 1} → statement M
-past-comma-spec = tie.close (tie.spec token-requires returns)
+past-comma-spec = tie.close (tie.spec (λ c κs. search needs) returns)

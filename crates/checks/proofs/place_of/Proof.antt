@@ -5,27 +5,6 @@ use borrow.Author.Needs.{needs}
 use Rattle.checks.proofs.place_of.Statement.{statement}
 use Rattle.checks.proofs.place_of.Tie as tie
 
-enum-known-arg : tie.Need-enum-known-arg
-enum-known-arg c = search needs
-
-enum-known-arg-2 : tie.Need-enum-known-arg-2
-enum-known-arg-2 c = search needs
-
-enum-known-arg-3 : tie.Need-enum-known-arg-3
-enum-known-arg-3 c = search needs
-
-enum-known-arg-4 : tie.Need-enum-known-arg-4
-enum-known-arg-4 c = search needs
-
-enum-known-arg-5 : tie.Need-enum-known-arg-5
-enum-known-arg-5 c = search needs
-
-enum-known-arg-6 : tie.Need-enum-known-arg-6
-enum-known-arg-6 c = search needs
-
-enum-known-arg-7 : tie.Need-enum-known-arg-7
-enum-known-arg-7 c = search needs
-
 returns : tie.Need-returns
 unfolding placeOf argIn
 returns c = λ s. rw (c .before .arg .given .1)
@@ -58,13 +37,13 @@ pub place-of-spec : {M : Type 1} → statement M
 place-of-spec =
     tie.close
     (tie.spec
-    enum-known-arg
-    enum-known-arg-2
-    enum-known-arg-3
-    enum-known-arg-4
-    enum-known-arg-5
-    enum-known-arg-6
-    enum-known-arg-7
+    (λ c. search needs)
+    (λ c. search needs)
+    (λ c. search needs)
+    (λ c. search needs)
+    (λ c. search needs)
+    (λ c. search needs)
+    (λ c. search needs)
     returns
     returns-2
     returns-3

@@ -23,9 +23,6 @@ here c =
 returns : tie.Need-returns
 returns c = let a = c .before .before .args in sym (no-n (now (a .text)) (a .name .offset) (a .name .length) (c .before .before .pre) (c .if1 .taken))
 
-shared-slice-read-b : tie.Need-shared-slice-read-b
-shared-slice-read-b c = search needs
-
 returns-2 : tie.Need-returns-2
 returns-2 c = sym (here (c .before .before) ∙ rw (c .if2 .taken))
 
@@ -33,4 +30,4 @@ returns-3 : tie.Need-returns-3
 returns-3 c = sym (here (c .before .before) ∙ lower-n _ (c .if2 .left))
 
 pub spells-n-spec : {M : Type 1} → statement M
-spells-n-spec = tie.close (tie.spec returns shared-slice-read-b returns-2 returns-3)
+spells-n-spec = tie.close (tie.spec returns (λ c. search needs) returns-2 returns-3)

@@ -7,15 +7,6 @@ use Rattle.dumachik.specs.Scan.{strayAt}
 use Rattle.dumachik.proofs.mfl_scan.Statement.{statement}
 use Rattle.dumachik.proofs.mfl_scan.Tie as tie
 
-scan-text-requires : tie.Need-scan-text-requires
-scan-text-requires c κs = search needs
-
-enum-told : tie.Need-enum-told
-enum-told c = search needs
-
-enum-known-at : tie.Need-enum-known-at
-enum-known-at c = search needs
-
 returns : tie.Need-returns
 returns c =
     let text = now (c .before .before .before .before .args .text) in
@@ -27,4 +18,4 @@ returns-2 c =
     ap (strayAt (length text)) (sym (c .before .at .given .1) ∙ c .before .before .before .scan-text .ensures)
 
 pub mfl-scan-spec : {M : Type 1} → statement M
-mfl-scan-spec = tie.close (tie.spec scan-text-requires enum-told enum-known-at returns returns-2)
+mfl-scan-spec = tie.close (tie.spec (λ c κs. search needs) (λ c. search needs) (λ c. search needs) returns returns-2)

@@ -1,23 +1,14 @@
 -- `dumachik::mfl_statement` meets its contract: a refusal's place lies in the text or is the index, so its word can be told. Assumes nothing.
-use mathlib.Core.Path.{_∙_, ap, sym}
+use mathlib.Core.Path.{_∙_, ap, sym, subst}
 use native.Mathlib.Omega.{arith}
 use lib.ListN.{length}
 use denote.Ref.{now}
 use borrow.Author.Needs.{needs}
-use Rattle.numbers.specs.Answers.{numbersAs}
-use Rattle.dumachik.specs.Word.{word}
-use Rattle.dumachik.proofs.Places.{numbers-within}
+use Rattle.statement_numbers.specs.Answers.{numbersAs}
+use Rattle.dumachik.specs.Word.{word, Below}
+use Rattle.dumachik.proofs.Below.{statement-below}
 use Rattle.dumachik.proofs.mfl_statement.Statement.{statement}
 use Rattle.dumachik.proofs.mfl_statement.Tie as tie
-
-statement-numbers-requires : tie.Need-statement-numbers-requires
-statement-numbers-requires c κs = search needs
-
-enum-known-n : tie.Need-enum-known-n
-enum-known-n c = search needs
-
-enum-known-refusal : tie.Need-enum-known-refusal
-enum-known-refusal c = search needs
 
 refusal-word-requires : tie.Need-refusal-word-requires
 unfolding numbersAs
@@ -25,37 +16,31 @@ refusal-word-requires c κs =
     let p = c .before .before .before .before .before in
     let a = p .before .before .before .before .args in
     let r = c .before .refusal .given in
-    let h = numbers-within (now (a .text)) (a .index) (length (now (a .out))) (r .0 .0 .number) (r .0 .0 .place) (sym (p .statement-numbers .ensures .0) ∙ ap numbersAs (r .1)) in
-    omega (arith, h)
-
-same-length : tie.Need-same-length
-same-length c = search needs
+    subst Below (sym (p .numbers-at .ensures .0) ∙ ap numbersAs (r .1))
+    (statement-below 64 (length (now (a .out))) (now (a .text)) (a .index) (omega arith))
 
 returns : tie.Need-returns
 unfolding numbersAs
 returns c =
     let p = c .before .before .before .before .before in
-    (ap word (sym (ap numbersAs (c .before .n .given .1)) ∙ p .statement-numbers .ensures .0), p .statement-numbers .ensures .1)
-
-same-length-2 : tie.Need-same-length-2
-same-length-2 c = search needs
+    (ap word (sym (ap numbersAs (c .before .n .given .1)) ∙ p .numbers-at .ensures .0), p .numbers-at .ensures .1)
 
 returns-2 : tie.Need-returns-2
 unfolding numbersAs
 returns-2 c =
     let k = c .before .before in
     let p = k .before .before .before .before in
-    (c .refusal-word .ensures ∙ ap word (sym (ap numbersAs (k .refusal .given .1)) ∙ p .statement-numbers .ensures .0), p .statement-numbers .ensures .1)
+    (c .refusal-word .ensures ∙ ap word (sym (ap numbersAs (k .refusal .given .1)) ∙ p .numbers-at .ensures .0), p .numbers-at .ensures .1)
 
 pub mfl-statement-spec : {M : Type 1} → statement M
 mfl-statement-spec =
     tie.close
     (tie.spec
-    statement-numbers-requires
-    enum-known-n
-    enum-known-refusal
+    (λ c κs. search needs)
+    (λ c. search needs)
+    (λ c. search needs)
     refusal-word-requires
-    same-length
+    (λ c. search needs)
     returns
-    same-length-2
+    (λ c. search needs)
     returns-2)

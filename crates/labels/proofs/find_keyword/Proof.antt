@@ -31,7 +31,7 @@ row : (c : tie.After-likely)
 row c =
     let start = c .before .before .before .before .before in
     let within : c .likely .result < length keywords = rw (c .likely .ensures) (likely-within _ _) in
-    rw (zero-add (c .likely .result)) at (held-row _ _ _ _ (c .likely .result) (lent _ _ _ _ _ (start .pre) keywords-held) within)
+    rw (zero-add (c .likely .result)) at (held-row (lent (start .pre) keywords-held) (c .likely .result) within)
 
 -- what the comparison says of the likely keyword
 told : (c : tie.After-same-word)
@@ -41,39 +41,15 @@ told c =
     let d = c .before .before .before in
     c .same-word .ensures ∙ rw (c .before .label-at .ensures, row d .1, place d)
 
-returns : tie.Need-returns
-returns c = sym (ap foundAs (short-none _ (c .if1 .taken)))
-
-shared-slice-read-lower-byte : tie.Need-shared-slice-read-lower-byte
-shared-slice-read-lower-byte c = search needs
-
-lower-byte-requires : tie.Need-lower-byte-requires
-lower-byte-requires c κs = search needs
-
-likely-requires : tie.Need-likely-requires
-likely-requires c κs = search needs
-
-label-at-requires : tie.Need-label-at-requires
-label-at-requires c κs = row (c .before) .0
-
-same-word-requires : tie.Need-same-word-requires
-same-word-requires c κs = search needs
-
-returns-2 : tie.Need-returns-2
-returns-2 c = rw (place (c .before .before .before .before)) (sym (ap foundAs (likely-some _ (sym (told (c .before)) ∙ c .if2 .taken))))
-
-returns-3 : tie.Need-returns-3
-returns-3 c = sym (ap foundAs (likely-none _ (sym (told (c .before)) ∙ c .if2 .left)))
-
 pub find-keyword-spec : {M : Type 1} → statement M
 find-keyword-spec =
     tie.close
     (tie.spec
-    returns
-    shared-slice-read-lower-byte
-    lower-byte-requires
-    likely-requires
-    label-at-requires
-    same-word-requires
-    returns-2
-    returns-3)
+    (λ c. sym (ap foundAs (short-none _ (c .if1 .taken))))
+    (λ c. search needs)
+    (λ c κs. search needs)
+    (λ c κs. search needs)
+    (λ c κs. row (c .before) .0)
+    (λ c κs. search needs)
+    (λ c. rw (place (c .before .before .before .before)) (sym (ap foundAs (likely-some _ (sym (told (c .before)) ∙ c .if2 .taken)))))
+    (λ c. sym (ap foundAs (likely-none _ (sym (told (c .before)) ∙ c .if2 .left)))))

@@ -7,12 +7,9 @@ use borrow.Author.Needs.{needs}
 use Rattle.labels.proofs.keyword.Statement.{statement}
 use Rattle.labels.proofs.keyword.Tie as tie
 
-find-keyword-requires : tie.Need-find-keyword-requires
-unfolding keywordTable keywords
-find-keyword-requires c κs = refl
-
-returns : tie.Need-returns
-returns c = search needs
-
 pub keyword-spec : {M : Type 1} → statement M
-keyword-spec = tie.close (tie.spec find-keyword-requires returns)
+unfolding keywordTable keywords
+keyword-spec = tie.close
+    (tie.spec
+    (λ c κs. refl)
+    (λ c. search needs))

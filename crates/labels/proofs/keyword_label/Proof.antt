@@ -15,13 +15,10 @@ use Rattle.labels.proofs.keyword_label.Tie as tie
 -- the row of the keyword
 row : (c : tie.Start)
     → (rowFits (now (c .args .keys)) (c .args .place) ≡ true) × (labelAt (now (c .args .keys)) (c .args .place) ≡ getD keywords (c .args .place) [])
-row c = rw (zero-add (c .args .place)) at (held-row _ _ _ _ (c .args .place) (lent _ _ _ _ _ (c .pre .0) keywords-held) (c .pre .1))
-
-label-at-requires : tie.Need-label-at-requires
-label-at-requires c κs = row (c .before) .0
-
-returns : tie.Need-returns
-returns c = c .label-at .ensures ∙ row (c .before .before) .1
+row c = rw (zero-add (c .args .place)) at (held-row (lent (c .pre .0) keywords-held) (c .args .place) (c .pre .1))
 
 pub keyword-label-spec : {M : Type 1} → statement M
-keyword-label-spec = tie.close (tie.spec label-at-requires returns)
+keyword-label-spec = tie.close
+    (tie.spec
+    (λ c κs. row (c .before) .0)
+    (λ c. c .label-at .ensures ∙ row (c .before .before) .1))

@@ -1,113 +1,37 @@
--- `labels::rows_of` meets its contract: that the rows fit and hold the family's labels is computed, for each family.
+-- `labels::rows_of` meets its contract: the rows at each family are those with its mark.
 -- Assumes nothing.
-use mathlib.Core.Path.{refl}
 use borrow.Author.Needs.{needs}
 use Rattle.labels.specs.Label.{labelsOf}
 use Rattle.labels.specs.Table.{labelTable}
-use Rattle.labels.specs.Row.{labelsIn, rowsFit}
+use Rattle.labels.specs.Row.{marked}
+use Rattle.labels.proofs.Families.{family-rows}
 use Rattle.labels.proofs.rows_of.Statement.{statement}
 use Rattle.labels.proofs.rows_of.Tie as tie
 
-enum-told : tie.Need-enum-told
-enum-told c = search needs
-
-enum-told-2 : tie.Need-enum-told-2
-enum-told-2 c = search needs
-
-enum-told-3 : tie.Need-enum-told-3
-enum-told-3 c = search needs
-
-enum-told-4 : tie.Need-enum-told-4
-enum-told-4 c = search needs
-
-enum-told-5 : tie.Need-enum-told-5
-enum-told-5 c = search needs
-
-enum-told-6 : tie.Need-enum-told-6
-enum-told-6 c = search needs
-
-enum-told-7 : tie.Need-enum-told-7
-enum-told-7 c = search needs
-
-enum-told-8 : tie.Need-enum-told-8
-enum-told-8 c = search needs
-
-enum-told-9 : tie.Need-enum-told-9
-enum-told-9 c = search needs
-
-enum-told-10 : tie.Need-enum-told-10
-enum-told-10 c = search needs
-
-enum-told-11 : tie.Need-enum-told-11
-enum-told-11 c = search needs
-
-returns : tie.Need-returns
-unfolding labelTable labelsOf rowsFit labelsIn
-returns c = rw (c .enum-told .given .1) (record { fit = refl; held = refl })
-
-returns-2 : tie.Need-returns-2
-unfolding labelTable labelsOf rowsFit labelsIn
-returns-2 c = rw (c .enum-told2 .given .1) (record { fit = refl; held = refl })
-
-returns-3 : tie.Need-returns-3
-unfolding labelTable labelsOf rowsFit labelsIn
-returns-3 c = rw (c .enum-told3 .given .1) (record { fit = refl; held = refl })
-
-returns-4 : tie.Need-returns-4
-unfolding labelTable labelsOf rowsFit labelsIn
-returns-4 c = rw (c .enum-told4 .given .1) (record { fit = refl; held = refl })
-
-returns-5 : tie.Need-returns-5
-unfolding labelTable labelsOf rowsFit labelsIn
-returns-5 c = rw (c .enum-told5 .given .1) (record { fit = refl; held = refl })
-
-returns-6 : tie.Need-returns-6
-unfolding labelTable labelsOf rowsFit labelsIn
-returns-6 c = rw (c .enum-told6 .given .1) (record { fit = refl; held = refl })
-
-returns-7 : tie.Need-returns-7
-unfolding labelTable labelsOf rowsFit labelsIn
-returns-7 c = rw (c .enum-told7 .given .1) (record { fit = refl; held = refl })
-
-returns-8 : tie.Need-returns-8
-unfolding labelTable labelsOf rowsFit labelsIn
-returns-8 c = rw (c .enum-told8 .given .1) (record { fit = refl; held = refl })
-
-returns-9 : tie.Need-returns-9
-unfolding labelTable labelsOf rowsFit labelsIn
-returns-9 c = rw (c .enum-told9 .given .1) (record { fit = refl; held = refl })
-
-returns-10 : tie.Need-returns-10
-unfolding labelTable labelsOf rowsFit labelsIn
-returns-10 c = rw (c .enum-told10 .given .1) (record { fit = refl; held = refl })
-
-returns-11 : tie.Need-returns-11
-unfolding labelTable labelsOf rowsFit labelsIn
-returns-11 c = rw (c .enum-told11 .given .1) (record { fit = refl; held = refl })
-
 pub rows-of-spec : {M : Type 1} → statement M
+unfolding labelTable labelsOf marked
 rows-of-spec =
     tie.close
     (tie.spec
-    enum-told
-    enum-told-2
-    enum-told-3
-    enum-told-4
-    enum-told-5
-    enum-told-6
-    enum-told-7
-    enum-told-8
-    enum-told-9
-    enum-told-10
-    enum-told-11
-    returns
-    returns-2
-    returns-3
-    returns-4
-    returns-5
-    returns-6
-    returns-7
-    returns-8
-    returns-9
-    returns-10
-    returns-11)
+    (λ c. search needs)
+    (λ c. search needs)
+    (λ c. search needs)
+    (λ c. search needs)
+    (λ c. search needs)
+    (λ c. search needs)
+    (λ c. search needs)
+    (λ c. search needs)
+    (λ c. search needs)
+    (λ c. search needs)
+    (λ c. search needs)
+    (λ c. family-rows (c .enum-told .given .1))
+    (λ c. family-rows (c .enum-told2 .given .1))
+    (λ c. family-rows (c .enum-told3 .given .1))
+    (λ c. family-rows (c .enum-told4 .given .1))
+    (λ c. family-rows (c .enum-told5 .given .1))
+    (λ c. family-rows (c .enum-told6 .given .1))
+    (λ c. family-rows (c .enum-told7 .given .1))
+    (λ c. family-rows (c .enum-told8 .given .1))
+    (λ c. family-rows (c .enum-told9 .given .1))
+    (λ c. family-rows (c .enum-told10 .given .1))
+    (λ c. family-rows (c .enum-told11 .given .1)))

@@ -9,43 +9,43 @@ use Rattle.lists.proofs.counts_of.Statement.{statement}
 use Rattle.lists.proofs.counts_of.Tie as tie
 
 abbrev Inv-loop : tie.InvT-loop
-Inv-loop text classes items counts₀ n₀ o₀ counts n o = Gone countFor text items counts n o
+Inv-loop text classes items counts₀ n₀ cur₀ counts n cur = Gone countFor text items counts n (cur .at)
 
 abbrev μ-loop : tie.MeasureT-loop
-μ-loop text classes items counts₀ n₀ o₀ counts n o = items .count - n
+μ-loop text classes items counts₀ n₀ cur₀ counts n cur = items .count - n
 
 no-counts-requires : tie.Need-no-counts-requires Inv-loop μ-loop
 no-counts-requires c κs = tt
 
 loop-holds : tie.Need-loop-holds Inv-loop μ-loop
-loop-holds c = none-gone countFor _ _ _ (c .no-counts .ensures)
+loop-holds c = none-gone countFor _ _ _ (c .before .no-counts .ensures)
 
-item-at-requires : tie.Need-item-at-requires Inv-loop μ-loop
-item-at-requires c κs =
+entry-at-requires : tie.Need-entry-at-requires Inv-loop μ-loop
+entry-at-requires c κs =
     let l = c .before .before in
-    let p = l .before .before .before .pre in
-    (p .0, next-stands _ _ (l .loop .n) (l .loop .o) (p .1) (l .loop .inv .come) (c .if1 .taken))
+    let p = l .before .before .before .before .pre in
+    (p .0, next-stands _ _ (l .loop .n) (l .loop .cur .at) (p .1) (l .loop .inv .come) (c .if1 .taken))
 
 count-or-0-requires : tie.Need-count-or-0-requires Inv-loop μ-loop
-count-or-0-requires c κs = c .item-at .ensures .inside
+count-or-0-requires c κs = c .entry-at .ensures .inside
 
 mul-counts : tie.Need-mul-counts Inv-loop μ-loop
 mul-counts c =
     let l = c .before .before .before .before in
-    omega (arith, l .before .before .before .pre .1 .few, c .before .before .if1 .taken)
+    omega (arith, l .before .before .before .before .pre .1 .few, c .before .before .if1 .taken)
 
 array-write-counts : tie.Need-array-write-counts Inv-loop μ-loop
 array-write-counts c =
     let l = c .before .before .before .before in
-    omega (arith, l .loop .inv .size, l .before .before .before .pre .1 .few, c .before .before .if1 .taken)
+    omega (arith, l .loop .inv .size, l .before .before .before .before .pre .1 .few, c .before .before .if1 .taken)
 
 past-comma-requires : tie.Need-past-comma-requires Inv-loop μ-loop
-past-comma-requires c κs = c .before .before .before .before .before .before .before .pre .0
+past-comma-requires c κs = c .before .before .before .before .before .before .before .before .pre .0
 
 add-n : tie.Need-add-n Inv-loop μ-loop
 add-n c =
     let l = c .before .before .before .before .before in
-    omega (arith, l .before .before .before .pre .1 .few, c .before .before .before .if1 .taken)
+    omega (arith, l .before .before .before .before .pre .1 .few, c .before .before .before .if1 .taken)
 
 loop-less : tie.Need-loop-less Inv-loop μ-loop
 loop-less c = omega (arith, c .before .before .before .if1 .taken)
@@ -53,16 +53,16 @@ loop-less c = omega (arith, c .before .before .before .if1 .taken)
 loop-again : tie.Need-loop-again Inv-loop μ-loop
 loop-again c =
     let l = c .before .before .before .before .before in
-    let a = l .before .before .before .args in
+    let a = l .before .before .before .before .args in
     let i = c .before .before in
-    one-more countFor (now (a .text)) (a .items) _ (l .loop .n) (l .loop .o) (c .past-comma .result) (i .item-at .result) (c .before .count-or-0 .result) (l .before .before .before .pre .1)
-    (l .loop .inv) (c .before .before .before .if1 .taken) (i .item-at .ensures) (c .past-comma .ensures)
+    one-more countFor (now (a .text)) (a .items) _ (l .loop .n) (l .loop .cur .at) (c .past-comma .result .at) (i .entry-at .result) (c .before .count-or-0 .result) (l .before .before .before .before .pre .1)
+    (l .loop .inv) (c .before .before .before .if1 .taken) (i .entry-at .ensures) (c .past-comma .ensures)
     (sym (c .before .count-or-0 .ensures))
 
 returns : tie.Need-returns Inv-loop μ-loop
 returns c =
     let l = c .before .before in
-    all-gone countFor _ _ _ (l .loop .n) (l .loop .o) (l .before .before .before .pre .1) (l .loop .inv) (c .if1 .left)
+    all-gone countFor _ _ _ (l .loop .n) (l .loop .cur .at) (l .before .before .before .before .pre .1) (l .loop .inv) (c .if1 .left)
 
 pub counts-of-spec : {M : Type 1} → statement M
 counts-of-spec =
@@ -72,7 +72,7 @@ counts-of-spec =
     μ-loop
     no-counts-requires
     loop-holds
-    item-at-requires
+    entry-at-requires
     count-or-0-requires
     mul-counts
     array-write-counts

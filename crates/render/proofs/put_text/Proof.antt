@@ -10,22 +10,22 @@ use Rattle.reading.specs.Read.{between, prepend}
 use Rattle.forms.specs.Forms.{statementIn}
 use Rattle.statements.specs.Answers.{readAt, nextThen, NextFurther}
 use Rattle.writing.proofs.Going.{as-long}
-use Rattle.render.proofs.Loop.{Sofar, none-yet, next-readable, next-room, one-more, all-printed, never}
+use Rattle.render.proofs.Loop.{Sofar, none-yet, next-fits, next-room, one-more, all-printed, never}
 use Rattle.render.proofs.put_text.Statement.{statement}
 use Rattle.render.proofs.put_text.Tie as tie
 
 abbrev Inv-loop : tie.InvT-loop
-Inv-loop text classes labels keys out₀ limit n₀ cur₀ at₀ out n cur at = Sofar limit text out₀ out n cur at
+Inv-loop text classes labels keys out₀ limit n₀ cur₀ at₀ out n cur at = Sofar limit text out₀ out n (cur .at) at
 
 abbrev μ-loop : tie.MeasureT-loop
-μ-loop text classes labels keys out₀ limit n₀ cur₀ at₀ out n cur at = length text - cur
+μ-loop text classes labels keys out₀ limit n₀ cur₀ at₀ out n cur at = length text - cur .at
 
 loop-holds : tie.Need-loop-holds Inv-loop μ-loop
-loop-holds c = none-yet _ _ _ (c .before .before .pre .3)
+loop-holds c = rw (c .new .ensures) (none-yet _ _ _ (c .before .before .before .pre .3))
 
 next-statement-requires : tie.Need-next-statement-requires Inv-loop μ-loop
 next-statement-requires c κs =
-    let p = c .before .before .before .pre in
+    let p = c .before .before .before .before .pre in
     (p .0, p .1, p .2, c .loop .inv .few)
 
 enum-known-form : tie.Need-enum-known-form Inv-loop μ-loop
@@ -34,9 +34,9 @@ enum-known-form c = search needs
 -- the statement that was read, and what is left behind it
 ahead : (c : tie.After-form Inv-loop μ-loop)
     → let l = c .before .before .before in
-    let a = l .before .before .before .args in
+    let a = l .before .before .before .before .args in
     let x = c .form .given .0 in
-    readAt (a .limit) (now (a .text)) (l .loop .n) between (l .loop .cur)
+    readAt (a .limit) (now (a .text)) (l .loop .n) between (l .loop .cur .at)
     ≡ prepend (statementIn (now (a .text)) (x .0)) (readAt (a .limit) (now (a .text)) (suc (l .loop .n)) between (x .1 .0 .at))
 unfolding nextThen
 ahead c = c .before .before .next-statement .ensures .0 ∙ ap (nextThen _ _ _) (c .form .given .1)
@@ -44,23 +44,23 @@ ahead c = c .before .before .next-statement .ensures .0 ∙ ap (nextThen _ _ _) 
 -- its end lies behind its start
 forward : (c : tie.After-form Inv-loop μ-loop)
     → let l = c .before .before .before in
-    let a = l .before .before .before .args in
-    (l .loop .cur < c .form .given .0 .1 .0 .at) × (c .form .given .0 .1 .0 .at ≤ length (now (a .text)))
+    let a = l .before .before .before .before .args in
+    (l .loop .cur .at < c .form .given .0 .1 .0 .at) × (c .form .given .0 .1 .0 .at ≤ length (now (a .text)))
 unfolding NextFurther
 forward c =
     let l = c .before .before .before in
-    subst (NextFurther (now (l .before .before .before .args .text)) (l .loop .cur)) (c .form .given .1) (c .before .before .next-statement .ensures .1)
+    subst (NextFurther (now (l .before .before .before .before .args .text)) (l .loop .cur .at)) (c .form .given .1) (c .before .before .next-statement .ensures .1)
 
 put-next-requires : tie.Need-put-next-requires Inv-loop μ-loop
 put-next-requires c κs =
     let f = c .before .before in
     let l = f .before .before .before in
-    let p = l .before .before .before .pre in
+    let p = l .before .before .before .before .pre in
     let x = f .form .given .0 in (
       p .0,
       p .1,
       p .2,
-      next-readable (l .loop .inv) (x .0) (x .1 .0 .at) (ahead f),
+      next-fits (l .loop .inv) (x .0) (x .1 .0 .at) (ahead f),
       next-room (l .loop .inv) (x .0) (x .1 .0 .at) (ahead f),
     )
 
@@ -110,6 +110,7 @@ put-text-spec =
     (tie.spec
     Inv-loop
     μ-loop
+    (λ c κs. search needs)
     loop-holds
     next-statement-requires
     enum-known-form

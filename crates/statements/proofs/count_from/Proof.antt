@@ -21,17 +21,17 @@ record Gone (s : List ℕ) (limit n cur : ℕ) : Type 0 where
   few : n ≤ cur
 
 abbrev Inv-loop : tie.InvT-loop
-Inv-loop text classes labels keys limit n₀ cur₀ n cur = Gone text limit n cur
+Inv-loop text classes labels keys limit n₀ cur₀ n cur = Gone text limit n (cur .at)
 
 abbrev μ-loop : tie.MeasureT-loop
-μ-loop text classes labels keys limit n₀ cur₀ n cur = length text - cur
+μ-loop text classes labels keys limit n₀ cur₀ n cur = length text - cur .at
 
 loop-holds : tie.Need-loop-holds Inv-loop μ-loop
-loop-holds c = record { same = refl; few = omega arith }
+loop-holds c = record { same = rw (c .new .ensures); few = omega arith }
 
 next-statement-requires : tie.Need-next-statement-requires Inv-loop μ-loop
 next-statement-requires c κs =
-    let p = c .before .before .pre in
+    let p = c .before .before .before .pre in
     (p .0, p .1, p .2, c .loop .inv .few)
 
 enum-known-c : tie.Need-enum-known-c Inv-loop μ-loop
@@ -43,10 +43,10 @@ add-n c =
     let x = c .before .c .given in
     let d = c .before .before .before in
     let l = d .before in
-    let a = l .before .before .args in
+    let a = l .before .before .before .args in
     let s = now (a .text) in
     let g = l .loop .inv in
-    let f = subst (NextFurther s (l .loop .cur)) (x .1) (d .next-statement .ensures .1) in
+    let f = subst (NextFurther s (l .loop .cur .at)) (x .1) (d .next-statement .ensures .1) in
     omega (arith, f .0, f .1, g .few)
 
 loop-less : tie.Need-loop-less Inv-loop μ-loop
@@ -55,10 +55,10 @@ loop-less c =
     let x = c .before .c .given in
     let d = c .before .before .before in
     let l = d .before in
-    let a = l .before .before .args in
+    let a = l .before .before .before .args in
     let s = now (a .text) in
     let g = l .loop .inv in
-    let f = subst (NextFurther s (l .loop .cur)) (x .1) (d .next-statement .ensures .1) in
+    let f = subst (NextFurther s (l .loop .cur .at)) (x .1) (d .next-statement .ensures .1) in
     omega (arith, f .0, f .1)
 
 loop-again : tie.Need-loop-again Inv-loop μ-loop
@@ -67,10 +67,10 @@ loop-again c =
     let x = c .before .c .given in
     let d = c .before .before .before in
     let l = d .before in
-    let a = l .before .before .args in
+    let a = l .before .before .before .args in
     let s = now (a .text) in
     let g = l .loop .inv in
-    let f = subst (NextFurther s (l .loop .cur)) (x .1) (d .next-statement .ensures .1) in
+    let f = subst (NextFurther s (l .loop .cur .at)) (x .1) (d .next-statement .ensures .1) in
     record {
       same =
           g .same
@@ -88,7 +88,7 @@ unfolding nextThen countAs
 returns c =
     let d = c .before .before in
     let l = d .before in
-    let a = l .before .before .args in
+    let a = l .before .before .before .args in
     let s = now (a .text) in
     sym
     (l .loop .inv .same
@@ -105,7 +105,7 @@ returns-2 c =
     let x = c .before .r .given in
     let d = c .before .before .before in
     let l = d .before in
-    let a = l .before .before .args in
+    let a = l .before .before .before .args in
     let s = now (a .text) in
     let g = l .loop .inv in
     sym (g .same ∙ ap (counted (l .loop .n)) (d .next-statement .ensures .0 ∙ ap (nextThen (a .limit) s (l .loop .n)) (x .1)))
@@ -116,6 +116,7 @@ count-from-spec =
     (tie.spec
     Inv-loop
     μ-loop
+    (λ c κs. search needs)
     loop-holds
     next-statement-requires
     enum-known-c

@@ -7,7 +7,7 @@ use Rattle.reading.specs.Syntax.{featureMade}
 use Rattle.forms.specs.Items.{nameIn}
 use Rattle.forms.specs.Forms.{statementIn}
 use Rattle.arguments.specs.Answers.{stepIn}
-use Rattle.calls.specs.Answers.{featureThen, FeatureFurther}
+use Rattle.syntax.specs.Answers.{featureThen, FeatureFurther}
 use Rattle.features.specs.Answers.{builtAs}
 use Rattle.statements.specs.Answers.{statementThen, StatementFurther}
 use borrow.Author.Needs.{needs}
@@ -27,7 +27,7 @@ build-requires c κs =
     let d = c .before .before .before in
     let a = d .before .before .args in
     let p = d .before .before .pre in
-    let f = subst (FeatureFurther (now (a .text)) (a .at)) (x .1) (d .read-feature .ensures .1) in
+    let f = subst (FeatureFurther (now (a .text)) (a .cur .at)) (x .1) (d .read-feature .ensures .1) in
     ((p .0, p .1, p .2), (p .3, f .2))
 
 enum-known-feature : tie.Need-enum-known-feature
@@ -48,7 +48,7 @@ returns c =
     let a = d .before .before .args in
     let s = now (a .text) in
     let k = nameIn s (a .name) in
-    let f = subst (FeatureFurther s (a .at)) (x .1) (d .read-feature .ensures .1) in (
+    let f = subst (FeatureFurther s (a .cur .at)) (x .1) (d .read-feature .ensures .1) in (
       d .read-feature .ensures .0 k
           ∙ ap (featureThen (a .limit) s k) (x .1)
           ∙ ap (λ (y : Answer Feature). stepIn (a .limit) s (featureMade y) (x .0 .1 .1 .0 .at))

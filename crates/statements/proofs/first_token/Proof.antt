@@ -18,12 +18,12 @@ record Gone (s : List ℕ) (o cur : ℕ) : Type 0 where
   ahead : o ≤ cur
 
 abbrev Inv-loop : tie.InvT-loop
-Inv-loop text classes at cur₀ cur = Gone text at cur
+Inv-loop text classes from₀ from = Gone text (from₀ .at) (from .at)
 
 abbrev μ-loop : tie.MeasureT-loop
-μ-loop text classes at cur₀ cur = length text - cur
+μ-loop text classes from₀ from = length text - from .at
 
-here : (d : tie.After-token-after-blanks Inv-loop μ-loop) → Known (now (d .before .before .before .args .text)) (d .before .loop .cur) (d .token-after-blanks .result)
+here : (d : tie.After-token-after-blanks Inv-loop μ-loop) → Known (now (d .before .before .before .args .text)) (d .before .loop .from .at) (d .token-after-blanks .result)
 here d = known _ _ (d .token-after-blanks .result) (d .token-after-blanks .ensures)
 
 loop-holds : tie.Need-loop-holds Inv-loop μ-loop
@@ -37,7 +37,7 @@ returns c =
     let d = c .before .before in
     let g = d .before .loop .inv in
     record {
-      place = d .before .loop .cur;
+      place = d .before .loop .from .at;
       stands = d .token-after-blanks .ensures;
       same = g .same;
       other = c .if1 .taken;

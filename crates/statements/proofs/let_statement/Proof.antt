@@ -9,7 +9,7 @@ use Rattle.forms.specs.Items.{nameIn}
 use Rattle.forms.specs.Forms.{statementIn}
 use Rattle.arguments.specs.Answers.{stepIn}
 use Rattle.checks.specs.Answers.{itemsAs}
-use Rattle.calls.specs.Answers.{letThen, LetFurther}
+use Rattle.syntax.specs.Answers.{letThen, LetFurther}
 use Rattle.statements.specs.Answers.{statementThen, StatementFurther}
 use borrow.Author.Needs.{needs}
 use Rattle.statements.proofs.let_statement.Statement.{statement}
@@ -41,7 +41,7 @@ returns c =
     let d = e .before .before .before .before in
     let a = d .before .before .args in
     let s = now (a .text) in
-    let f = subst (LetFurther s (a .at)) (x .1) (d .read-let .ensures .1) in
+    let f = subst (LetFurther s (a .cur .at)) (x .1) (d .read-let .ensures .1) in
     let i = e .items-of .ensures s (f .3) in (
       d .read-let .ensures .0
           ∙ ap (letThen (a .limit) s) (x .1)
@@ -58,7 +58,7 @@ returns-2 c =
     let d = e .before .before .before .before in
     let a = d .before .before .args in
     let s = now (a .text) in
-    let f = subst (LetFurther s (a .at)) (x .1) (d .read-let .ensures .1) in
+    let f = subst (LetFurther s (a .cur .at)) (x .1) (d .read-let .ensures .1) in
     let i = e .items-of .ensures s (f .3) in (
       d .read-let .ensures .0
           ∙ ap (letThen (a .limit) s) (x .1)

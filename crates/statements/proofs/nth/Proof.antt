@@ -23,39 +23,39 @@ record Gone (s : List ℕ) (limit index n cur : ℕ) (kept : Statement) : Type 0
   few : n ≤ cur
 
 abbrev Inv-loop : tie.InvT-loop
-Inv-loop text classes labels keys index limit n₀ cur₀ kept₀ n cur kept = Gone text limit index n cur kept
+Inv-loop text classes labels keys index limit n₀ cur₀ kept₀ n cur kept = Gone text limit index n (cur .at) kept
 
 abbrev μ-loop : tie.MeasureT-loop
-μ-loop text classes labels keys index limit n₀ cur₀ kept₀ n cur kept = length text - cur
+μ-loop text classes labels keys index limit n₀ cur₀ kept₀ n cur kept = length text - cur .at
 
 -- the statement that was read, and what is left behind it
 told :
     (d : tie.After-known-told Inv-loop μ-loop)
     → let l = d .before .before .before .before in
-    let a = l .before .before .args in
+    let a = l .before .before .before .args in
     let s = now (a .text) in
     let x = d .before .form .given .0 in
-    readAt (a .limit) s (l .loop .n) between (l .loop .cur)
+    readAt (a .limit) s (l .loop .n) between (l .loop .cur .at)
     ≡ prepend (statementIn s (x .0)) (readAt (a .limit) s (suc (l .loop .n)) between (x .1 .0 .at))
 unfolding nextThen
 told d =
     let o = d .before .before .before in
     let l = o .before in
-    let a = l .before .before .args in
+    let a = l .before .before .before .args in
     o .next-statement .ensures .0 ∙ ap (nextThen (a .limit) (now (a .text)) (l .loop .n)) (d .before .form .given .1)
 
 further :
     (d : tie.After-known-told Inv-loop μ-loop)
     → let l = d .before .before .before .before in
     let x = d .before .form .given .0 in
-    NextFurther (now (l .before .before .args .text)) (l .loop .cur) (nextRead.Statement (x .0) (x .1 .0))
+    NextFurther (now (l .before .before .before .args .text)) (l .loop .cur .at) (nextRead.Statement (x .0) (x .1 .0))
 further d = subst (NextFurther _ _) (d .before .form .given .1) (d .before .before .before .next-statement .ensures .1)
 
 -- what is sought behind it, after so many and with one kept
 abbrev Behind : tie.After-known-told Inv-loop μ-loop → ℕ → Statement → Type 0
 Behind d k form =
     let l = d .before .before .before .before in
-    let a = l .before .before .args in
+    let a = l .before .before .before .args in
     let s = now (a .text) in
     Sought (a .index) k (statementIn s form) (readAt (a .limit) s 0 between 0)
     (readAt (a .limit) s k between (d .before .form .given .0 .1 .0 .at))
@@ -74,11 +74,11 @@ sought-behind c =
     (c .if1 .came)
 
 loop-holds : tie.Need-loop-holds Inv-loop μ-loop
-loop-holds c = record { sought = none-passed _ _ _; few = omega arith }
+loop-holds c = record { sought = rw (c .new .ensures) (none-passed _ _ _); few = omega arith }
 
 next-statement-requires : tie.Need-next-statement-requires Inv-loop μ-loop
 next-statement-requires c κs =
-    let p = c .before .before .pre in
+    let p = c .before .before .before .pre in
     (p .0, p .1, p .2, c .loop .inv .few)
 
 enum-known-form : tie.Need-enum-known-form Inv-loop μ-loop
@@ -111,7 +111,7 @@ unfolding nextThen nthAs
 returns c =
     let d = c .before .before .before in
     let l = d .before in
-    let a = l .before .before .args in
+    let a = l .before .before .before .args in
     sym
     (found-kept (l .loop .inv .sought)
     (d .next-statement .ensures .0 ∙ ap (nextThen (a .limit) (now (a .text)) (l .loop .n)) (c .before .enum-told .given .1))
@@ -122,7 +122,7 @@ unfolding nextThen nthAs
 returns-2 c =
     let d = c .before .before .before in
     let l = d .before in
-    let a = l .before .before .args in
+    let a = l .before .before .before .args in
     sym
     (found-none (l .loop .inv .sought)
     (d .next-statement .ensures .0 ∙ ap (nextThen (a .limit) (now (a .text)) (l .loop .n)) (c .before .enum-told .given .1))
@@ -137,7 +137,7 @@ returns-3 c =
     let x = c .before .r .given in
     let d = c .before .before .before in
     let l = d .before in
-    let a = l .before .before .args in
+    let a = l .before .before .before .args in
     sym
     (found-refused (l .loop .inv .sought) (x .0 .0 .number) (x .0 .0 .place)
     (d .next-statement .ensures .0 ∙ ap (nextThen (a .limit) (now (a .text)) (l .loop .n)) (x .1)))
@@ -148,6 +148,7 @@ nth-spec =
     (tie.spec
     Inv-loop
     μ-loop
+    (λ c κs. search needs)
     loop-holds
     next-statement-requires
     enum-known-form

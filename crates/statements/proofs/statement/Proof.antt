@@ -21,7 +21,7 @@ returns c =
     let d = c .before .before in
     let a = d .before .before .args in
     let s = now (a .text) in (
-      ap (λ (b : Bool). stepIn (a .limit) s (cond b (more letKeyword) (more (keyword (nameIn s (a .name))))) (a .at))
+      ap (λ (b : Bool). stepIn (a .limit) s (cond b (more letKeyword) (more (keyword (nameIn s (a .name))))) (a .cur .at))
           (sym (d .is-let .ensures) ∙ c .before .if1 .taken)
           ∙ c .let-statement .ensures .0,
       c .let-statement .ensures .1,
@@ -36,7 +36,7 @@ returns-2 c =
     let d = c .before .before in
     let a = d .before .before .args in
     let s = now (a .text) in (
-      ap (λ (b : Bool). stepIn (a .limit) s (cond b (more letKeyword) (more (keyword (nameIn s (a .name))))) (a .at))
+      ap (λ (b : Bool). stepIn (a .limit) s (cond b (more letKeyword) (more (keyword (nameIn s (a .name))))) (a .cur .at))
           (sym (d .is-let .ensures) ∙ c .before .if1 .left)
           ∙ c .feature-statement .ensures .0,
       c .feature-statement .ensures .1,

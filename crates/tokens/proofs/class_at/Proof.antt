@@ -11,22 +11,15 @@ use Rattle.tokens.proofs.Classes.{table-entry}
 use Rattle.tokens.proofs.class_at.Statement.{statement}
 use Rattle.tokens.proofs.class_at.Tie as tie
 
-shared-slice-read-result : tie.Need-shared-slice-read-result
-shared-slice-read-result c = search needs
-
-cast-result : tie.Need-cast-result
-cast-result c = omega (arith, c .shared-slice-known .given (c .before .args .at))
-
-element-copy-out-result : tie.Need-element-copy-out-result
-element-copy-out-result c = omega (arith, c .shared-slice-known .given (c .before .args .at))
-
-returns : tie.Need-returns
-returns c =
+pub class-at-spec : {M : Type 1} → statement M
+class-at-spec =
+    tie.close
+    (tie.spec
+    (λ c. search needs)
+    (λ c. omega (arith, c .shared-slice-known .given (c .before .args .at)))
+    (λ c. omega (arith, c .shared-slice-known .given (c .before .args .at)))
+    (λ c.
     let a = c .before .before .args in
     let b = getD (now (a .text)) (a .at) 0 in
     ap (λ (l : List ℕ). getD l b 0) (c .before .before .pre .0)
-    ∙ table-entry b (omega (arith, c .before .shared-slice-known .given (a .at)))
-
-pub class-at-spec : {M : Type 1} → statement M
-class-at-spec =
-    tie.close (tie.spec shared-slice-read-result cast-result element-copy-out-result returns)
+    ∙ table-entry b (omega (arith, c .before .shared-slice-known .given (a .at)))))

@@ -14,27 +14,21 @@ use borrow.Author.Needs.{needs}
 use Rattle.tokens.proofs.passed.Statement.{statement}
 use Rattle.tokens.proofs.passed.Tie as tie
 
-add-result : tie.Need-add-result
-add-result c = search needs
-
-returns : tie.Need-returns
-returns c =
+pub passed-spec : {M : Type 1} → statement M
+passed-spec = tie.close
+    (tie.spec
+    (λ c. search needs)
+    (λ c.
     let a = c .before .before .args in
     let p = c .before .before .pre .1 in
     record {
       same = past-blank (now (a .text)) (a .at) (p .inside) (sym (p .class-is) ∙ c .if1 .taken);
       further = omega arith;
       within = omega (arith, p .inside);
-    }
-
-add-run-end : tie.Need-add-run-end
-add-run-end c = search needs
-
-run-end-requires : tie.Need-run-end-requires
-run-end-requires c κs = search needs
-
-returns-2 : tie.Need-returns-2
-returns-2 c =
+    })
+    (λ c. search needs)
+    (λ c κs. search needs)
+    (λ c.
     let a = c .before .before .before .args in
     let p = c .before .before .before .pre .1 in
     let r : c .run-end .result ≡ a .at + 1 + span (classBetween 1 9) (drop (a .at + 1) (now (a .text))) = c .run-end .ensures in
@@ -44,7 +38,4 @@ returns-2 c =
           past-comment (now (a .text)) (a .at) (p .inside) (sym (p .class-is) ∙ five) ∙ ap (λ (n : ℕ). tokensAt n (drop n (now (a .text)))) (sym r);
       further = omega (arith, r);
       within = omega (arith, r, p .inside, simp length-drop at (span-most (classBetween 1 9) (drop (a .at + 1) (now (a .text)))));
-    }
-
-pub passed-spec : {M : Type 1} → statement M
-passed-spec = tie.close (tie.spec add-result returns add-run-end run-end-requires returns-2)
+    }))

@@ -24,58 +24,29 @@ here :
     (d .token-after-blanks .result)
 here d = known _ _ (d .token-after-blanks .result) (d .token-after-blanks .ensures)
 
-loop-holds : tie.Need-loop-holds Inv-loop μ-loop
-loop-holds c = refl
-
-plain-end-requires : tie.Need-plain-end-requires Inv-loop μ-loop
-plain-end-requires c κs = c .before .before .pre
-
-loop-less : tie.Need-loop-less Inv-loop μ-loop
-loop-less c = omega (arith, c .if1 .taken, c .before .plain-end .ensures .within (c .if1 .taken))
-
-loop-again : tie.Need-loop-again Inv-loop μ-loop
-loop-again c = sym (c .before .plain-end .ensures .same) ∙ c .before .before .loop .inv
-
-token-after-blanks-requires : tie.Need-token-after-blanks-requires Inv-loop μ-loop
-token-after-blanks-requires c κs = c .before .before .before .before .pre
-
-returns : tie.Need-returns Inv-loop μ-loop
-unfolding scanned
-returns c =
-    let d = c .before .before in
-    sym (ap scanned (known-stray (here d) (c .if2 .taken))) ∙ d .before .before .before .loop .inv
-
-returns-2 : tie.Need-returns-2 Inv-loop μ-loop
-unfolding scanned
-returns-2 c =
-    let d = c .before .before .before .before in
-    sym (ap scanned (known-end (here d) (c .if3 .taken))) ∙ d .before .before .before .loop .inv
-
-loop-less-2 : tie.Need-loop-less-2 Inv-loop μ-loop
-loop-less-2 c =
-    let d = c .before .before .before .before .before in
-    let r = known-token (here d) (c .before .before .before .if2 .left) (c .before .if3 .left) .reads in
-    omega (arith, r .ahead, r .wide, r .within)
-
-loop-again-2 : tie.Need-loop-again-2 Inv-loop μ-loop
-unfolding scanned
-loop-again-2 c =
-    let d = c .before .before .before .before .before in
-    let r = known-token (here d) (c .before .before .before .if2 .left) (c .before .if3 .left) .reads in
-    sym (ap scanned (r .tokens)) ∙ d .before .before .before .loop .inv
-
 pub scan-spec : {M : Type 1} → statement M
+unfolding scanned
 scan-spec =
     tie.close
     (tie.spec
     Inv-loop
     μ-loop
-    loop-holds
-    plain-end-requires
-    loop-less
-    loop-again
-    token-after-blanks-requires
-    returns
-    returns-2
-    loop-less-2
-    loop-again-2)
+    (λ c. refl)
+    (λ c κs. c .before .before .pre)
+    (λ c. omega (arith, c .if1 .taken, c .before .plain-end .ensures .within (c .if1 .taken)))
+    (λ c. sym (c .before .plain-end .ensures .same) ∙ c .before .before .loop .inv)
+    (λ c κs. c .before .before .before .before .pre)
+    (λ c.
+    let d = c .before .before in
+    sym (ap scanned (known-stray (here d) (c .if2 .taken))) ∙ d .before .before .before .loop .inv)
+    (λ c.
+    let d = c .before .before .before .before in
+    sym (ap scanned (known-end (here d) (c .if3 .taken))) ∙ d .before .before .before .loop .inv)
+    (λ c.
+    let d = c .before .before .before .before .before in
+    let r = known-token (here d) (c .before .before .before .if2 .left) (c .before .if3 .left) .reads in
+    omega (arith, r .ahead, r .wide, r .within))
+    (λ c.
+    let d = c .before .before .before .before .before in
+    let r = known-token (here d) (c .before .before .before .if2 .left) (c .before .if3 .left) .reads in
+    sym (ap scanned (r .tokens)) ∙ d .before .before .before .loop .inv))

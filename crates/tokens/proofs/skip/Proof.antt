@@ -15,59 +15,33 @@ Inv-loop text classes at i₀ i = tokensAt at (drop at text) ≡ tokensAt i (dro
 abbrev μ-loop : tie.MeasureT-loop
 μ-loop text classes at i₀ i = length text - i
 
-loop-holds : tie.Need-loop-holds Inv-loop μ-loop
-loop-holds c = refl
-
-class-at-requires : tie.Need-class-at-requires Inv-loop μ-loop
-class-at-requires c κs = (c .before .before .before .pre, c .loop-test .taken)
-
-returns : tie.Need-returns Inv-loop μ-loop
-returns c =
-    let a = c .before .before .before .before .before .args in
-    let i = c .before .before .before .loop .i in
-    record {
-      same = c .before .before .before .loop .inv;
-      stands = λ h. simp (← c .before .class-at .ensures, lt-leb 4 _ (c .if1 .taken));
-    }
-
-returns-2 : tie.Need-returns-2 Inv-loop μ-loop
-returns-2 c =
-    record {
-      same = c .before .before .before .before .loop .inv;
-      stands = λ h. simp (← c .before .before .class-at .ensures, lt-leb _ 5 (c .if2 .taken), and-false);
-    }
-
-passed-requires : tie.Need-passed-requires Inv-loop μ-loop
-passed-requires c κs = (
-  c .before .before .before .before .before .before .pre,
-  record {
-    inside = c .before .before .before .loop-test .taken;
-    class-is = c .before .before .class-at .ensures;
-    least = c .before .if1 .left;
-    most = c .if2 .left;
-  },
-)
-
-loop-less : tie.Need-loop-less Inv-loop μ-loop
-loop-less c = omega (arith, c .passed .ensures .further, c .passed .ensures .within)
-
-loop-again : tie.Need-loop-again Inv-loop μ-loop
-loop-again c = c .before .before .before .before .before .loop .inv ∙ c .passed .ensures .same
-
-returns-3 : tie.Need-returns-3 Inv-loop μ-loop
-returns-3 c = record { same = c .before .loop .inv; stands = λ h. absurd (omega (arith, c .loop-test .left)) }
-
 pub skip-spec : {M : Type 1} → statement M
 skip-spec =
     tie.close
     (tie.spec
     Inv-loop
     μ-loop
-    loop-holds
-    class-at-requires
-    returns
-    returns-2
-    passed-requires
-    loop-less
-    loop-again
-    returns-3)
+    (λ c. refl)
+    (λ c κs. (c .before .before .before .pre, c .loop-test .taken))
+    (λ c.
+    record {
+      same = c .before .before .before .loop .inv;
+      stands = λ h. simp (← c .before .class-at .ensures, lt-leb 4 _ (c .if1 .taken));
+    })
+    (λ c.
+    record {
+      same = c .before .before .before .before .loop .inv;
+      stands = λ h. simp (← c .before .before .class-at .ensures, lt-leb _ 5 (c .if2 .taken), and-false);
+    })
+    (λ c κs. (
+      c .before .before .before .before .before .before .pre,
+      record {
+        inside = c .before .before .before .loop-test .taken;
+        class-is = c .before .before .class-at .ensures;
+        least = c .before .if1 .left;
+        most = c .if2 .left;
+      },
+    ))
+    (λ c. omega (arith, c .passed .ensures .further, c .passed .ensures .within))
+    (λ c. c .before .before .before .before .before .loop .inv ∙ c .passed .ensures .same)
+    (λ c. record { same = c .before .loop .inv; stands = λ h. absurd (omega (arith, c .loop-test .left)) }))

@@ -3,45 +3,36 @@ use mathlib.Core.Path.{refl, _∙_, sym, subst}
 use denote.Ref.{now}
 use borrow.Author.Needs.{needs}
 use Rattle.tokens.specs.Class.{classOf, classTable}
-use Rattle.labels.specs.Label.{labelsOf}
-use Rattle.labels.specs.Table.{labelTable}
 use Rattle.values.specs.declared.Lists.{Lists}
-use Rattle.values.specs.Lists.{foundLists, Readable}
+use Rattle.values.specs.Lists.{foundLists}
 use Rattle.values.specs.Value.{Filled}
-use Rattle.values.proofs.Readable.{found-readable}
-use Rattle.values.proofs.Meaning.{found-means, found-sorted}
+use Rattle.values.proofs.Meaning.{Readable, found-readable, found-means, found-usable}
 use Rattle.values.proofs.value_under.Statement.{statement}
 use Rattle.values.proofs.value_under.Tie as tie
-
-statement-under-requires : tie.Need-statement-under-requires
-statement-under-requires c κs = search needs
 
 -- the lists of what was found
 readable : (c : tie.After-statement-under) → Readable (now (c .before .before .args .text)) (foundLists (c .statement-under .result))
 readable c =
     let a = c .before .before .args in
-    found-readable (a .limit) (now (a .text)) (a .index) (c .statement-under .result) (c .statement-under .ensures)
-
-found-lists-requires : tie.Need-found-lists-requires
-found-lists-requires c κs = search needs
+    found-readable (now (a .text)) (a .limit) (a .index) (c .statement-under .result) (c .statement-under .ensures)
 
 value-of-requires : tie.Need-value-of-requires
-unfolding classTable classOf labelTable labelsOf
+unfolding classTable classOf
 value-of-requires c κs =
-    let k = c .before .before .before in
-    (refl, refl, subst (Readable (now (k .before .before .args .text))) (sym (c .found-lists .ensures)) (readable k))
+    let k = c .before .before in
+    let r = subst (Readable (now (k .before .before .args .text))) (sym (c .found-lists .ensures)) (readable k) in
+    (refl, r .first, r .second, r .counts)
 
 returns : tie.Need-returns
 returns c =
     let d = c .before in
-    let k = d .before .before .before in
+    let k = d .before .before in
     let s = now (k .before .before .args .text) in
     let f = k .statement-under .result in
     let v = c .value-of .result in
     let e = c .value-of .ensures in
     let h = subst (λ (l : Lists). Filled s l v) (d .found-lists .ensures) (e .1) in
-    (found-means s v f (e .0) (readable k) h ∙ k .statement-under .ensures, found-sorted s v f (e .0) (readable k) h)
+    (found-means s v f (e .0) (readable k) h ∙ k .statement-under .ensures, found-usable s v f (e .0) (readable k) h)
 
 pub value-under-spec : {M : Type 1} → statement M
-value-under-spec =
-    tie.close (tie.spec statement-under-requires found-lists-requires value-of-requires returns)
+value-under-spec = tie.close (tie.spec (λ c κs. search needs) (λ c κs. search needs) value-of-requires returns)

@@ -6,10 +6,10 @@ use Rattle.replay.proofs.input.take_input.Statement.{statement}
 use Rattle.replay.proofs.input.take_input.Tie as tie
 
 abbrev Inv-loop : tie.InvT-loop
-Inv-loop chunk₀ line₀ text₀ out₀ held₀ turns₀ chunk line text out held turns = (length chunk ≡ length chunk₀) × (length line ≡ length line₀) × (length text ≡ length text₀) × (length out ≡ length out₀)
+Inv-loop chunk₀ line₀ text₀ out₀ used₀ turns₀ chunk line text out used turns = (length chunk ≡ length chunk₀) × (length line ≡ length line₀) × (length text ≡ length text₀) × (length out ≡ length out₀)
 
 abbrev μ-loop : tie.MeasureT-loop
-μ-loop chunk₀ line₀ text₀ out₀ held₀ turns₀ chunk line text out held turns = turns
+μ-loop chunk₀ line₀ text₀ out₀ used₀ turns₀ chunk line text out used turns = turns
 
 loop-holds : tie.Need-loop-holds Inv-loop μ-loop
 loop-holds c = omega arith
@@ -32,14 +32,14 @@ same-length-4 c = omega arith
 returns : tie.Need-returns Inv-loop μ-loop
 returns c = tt
 
-slice-reshare-prefix-take-all : tie.Need-slice-reshare-prefix-take-all Inv-loop μ-loop
-slice-reshare-prefix-take-all c = omega arith
+slice-reshare-prefix-take-some : tie.Need-slice-reshare-prefix-take-some Inv-loop μ-loop
+slice-reshare-prefix-take-some c = omega arith
 
-slice-aggregate-take-all : tie.Need-slice-aggregate-take-all Inv-loop μ-loop
-slice-aggregate-take-all c = omega arith
+slice-aggregate-take-some : tie.Need-slice-aggregate-take-some Inv-loop μ-loop
+slice-aggregate-take-some c = omega arith
 
-take-all-requires : tie.Need-take-all-requires Inv-loop μ-loop
-take-all-requires c κs = tt
+take-some-requires : tie.Need-take-some-requires Inv-loop μ-loop
+take-some-requires c κs = tt
 
 sub-turns : tie.Need-sub-turns Inv-loop μ-loop
 sub-turns c = omega arith
@@ -78,9 +78,9 @@ take-input-spec =
     same-length-3
     same-length-4
     returns
-    slice-reshare-prefix-take-all
-    slice-aggregate-take-all
-    take-all-requires
+    slice-reshare-prefix-take-some
+    slice-aggregate-take-some
+    take-some-requires
     sub-turns
     loop-less
     loop-again

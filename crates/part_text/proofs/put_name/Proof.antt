@@ -1,0 +1,22 @@
+-- `part_text::put_name` meets its contract: the part of the text is the name's spelling.
+-- Assumes nothing.
+use borrow.Author.Needs.{needs}
+use Rattle.part_text.proofs.put_name.Statement.{statement}
+use Rattle.part_text.proofs.put_name.Tie as tie
+
+spelling-requires : tie.Need-spelling-requires
+spelling-requires c κs = search needs
+
+put-all-requires : tie.Need-put-all-requires
+put-all-requires c κs = rw (c .spelling .ensures) (c .before .before .before .before .pre)
+
+same-length : tie.Need-same-length
+same-length c = search needs
+
+returns : tie.Need-returns
+returns c =
+    let w = c .before .before in
+    rw (w .before .spelling .ensures) at (w .put-all .ensures)
+
+pub put-name-spec : {M : Type 1} → statement M
+put-name-spec = tie.close (tie.spec spelling-requires put-all-requires same-length returns)

@@ -1,0 +1,167 @@
+// One request line and its answer.
+use lines::lexed;
+use lines::output;
+use lines::words;
+use lines::words::Decoded;
+use lines::words::Numbered;
+use render::Printed;
+use statements::CountRead;
+use statements::StatementAt;
+ghost use Prim.Native.Nat.{_<_};
+ghost use lib.ListN.{length};
+
+// What a line asks about its text; `PrintIn` has the bytes of the output.
+enum Asked {
+    Tokens,
+    Count,
+    Statement(usize),
+    Print,
+    PrintIn(usize),
+}
+
+fn answer_count(text: &[u8], out: &mut [u8], len: usize) -> usize {
+    match statements::count(text) {
+        CountRead::Count(count) => {
+            let n = output::put_all(out, len, b"ok");
+            output::put_number(out, n, count)
+        }
+        CountRead::Refused(r) => output::refused(out, len, r.number as usize, r.place),
+    }
+}
+
+fn answer_statement(text: &[u8], index: usize, out: &mut [u8], len: usize) -> usize {
+    let value = values::value_at(text, index);
+    let found = value.found;
+    match found {
+        StatementAt::Statement(statement) => {
+            let n = output::put_all(out, len, b"ok");
+            statement_lines::put_statement(out, n, value, statement)
+        }
+        StatementAt::Refused(r) => output::refused(out, len, r.number as usize, r.place),
+    }
+}
+
+// A canonical text in hex digits; the words for the empty one are the caller's.
+fn put_canonical(out: &mut [u8], len: usize, page: &[u8], length: usize, empty: &[u8]) -> usize {
+    if length == 0 {
+        return output::put_all(out, len, empty);
+    }
+    let n = output::put_all(out, len, b"ok ");
+    output::put_hex(out, n, page, 0, length)
+}
+
+// Print into so many bytes of the page. It is larger than any canonical text, so where it has fewer than are asked for the answer is the same.
+fn print_in(text: &[u8], page: &mut [u8], room: usize) -> Printed {
+    let n = output::within(room, page);
+    render::print(text, &mut page[..n])
+}
+
+fn answer_print(text: &[u8], room: usize, empty: &[u8], out: &mut [u8], len: usize) -> usize {
+    let mut page = io::large_buffer();
+    match print_in(text, &mut page, room) {
+        Printed::Length(length) => put_canonical(out, len, &page, length, empty),
+        Printed::Refused(r) => output::refused(out, len, r.number as usize, r.place),
+    }
+}
+
+fn answer_text(asked: Asked, text: &[u8], out: &mut [u8], len: usize) -> usize {
+    match asked {
+        Asked::Tokens => lexed::answer_tokens(text, out, len),
+        Asked::Count => answer_count(text, out, len),
+        Asked::Statement(index) => answer_statement(text, index, out, len),
+        Asked::Print => answer_print(text, 65536, b"ok", out, len),
+        Asked::PrintIn(room) => answer_print(text, room, b"ok -", out, len),
+    }
+}
+
+// The answer about the text whose digits stand from an offset of the line on.
+fn answer_hex(
+    asked: Asked,
+    line: &[u8],
+    from: usize,
+    text: &mut [u8],
+    out: &mut [u8],
+    len: usize,
+) -> usize {
+    match words::decode_word(line, from, text) {
+        Decoded::Malformed => output::malformed(out, len),
+        Decoded::Bytes(length) => {
+            let n = output::within(length, text);
+            answer_text(asked, &text[..n], out, len)
+        }
+    }
+}
+
+// `statement INDEX HEX`, from the index on.
+fn answer_index(line: &[u8], from: usize, text: &mut [u8], out: &mut [u8], len: usize) -> usize {
+    match words::read_number(line, from) {
+        Numbered::Malformed => output::malformed(out, len),
+        Numbered::Number { value, end } => {
+            if line.len() <= end {
+                return output::malformed(out, len);
+            }
+            answer_hex(Asked::Statement(value), line, end + 1, text, out, len)
+        }
+    }
+}
+
+// `HEX N`, where the blank stands at `end`; N is the line's last word, and a 32-bit number.
+fn answer_room(
+    line: &[u8],
+    from: usize,
+    end: usize,
+    text: &mut [u8],
+    out: &mut [u8],
+    len: usize,
+) -> usize
+    requires { ⌜ end < length (now line) ⌝ }
+{
+    match words::read_number(line, end + 1) {
+        Numbered::Malformed => output::malformed(out, len),
+        Numbered::Number { value, end: last } => {
+            if last < line.len() {
+                return output::malformed(out, len);
+            }
+            if 4294967295 < value {
+                return output::malformed(out, len);
+            }
+            let n = output::within(end, line);
+            answer_hex(Asked::PrintIn(value), &line[..n], from, text, out, len)
+        }
+    }
+}
+
+// `print HEX` or `print HEX N`, from the digits on. Where N follows, the empty text is `-`.
+fn answer_page(line: &[u8], from: usize, text: &mut [u8], out: &mut [u8], len: usize) -> usize {
+    let end = words::word_end(line, from);
+    if line.len() <= end {
+        return answer_hex(Asked::Print, line, from, text, out, len);
+    }
+    if end <= from {
+        return output::malformed(out, len);
+    }
+    answer_room(line, from, end, text, out, len)
+}
+
+// A line's first word says what is asked.
+fn answer_words(line: &[u8], text: &mut [u8], out: &mut [u8], len: usize) -> usize {
+    if words::begins(line, b"tokens") {
+        return answer_hex(Asked::Tokens, line, 7, text, out, len);
+    }
+    if words::begins(line, b"count") {
+        return answer_hex(Asked::Count, line, 6, text, out, len);
+    }
+    if words::begins(line, b"print") {
+        return answer_page(line, 6, text, out, len);
+    }
+    if words::begins(line, b"statement") {
+        return answer_index(line, 10, text, out, len);
+    }
+    output::malformed(out, len)
+}
+
+// The answer to a line, with its newline.
+pub fn answer(line: &[u8], text: &mut [u8], out: &mut [u8], len: usize) -> usize {
+    let n = answer_words(line, text, out, len);
+    output::put(out, n, b'\n')
+}

@@ -1,0 +1,106 @@
+-- `syntax::let_name` meets its contract: a word and a `,`, and then the argument. Assumes nothing.
+use mathlib.Core.Path.{refl, _∙_, ap, sym}
+use native.Mathlib.Omega.{arith}
+use borrow.Author.Tests.{ne-eqb}
+use lib.Dec.{lit≤}
+use denote.Ref.{now}
+use Rattle.reading.specs.Statement.{Name}
+use Rattle.reading.specs.Syntax.{turn, letOpen, letNamed, letCall}
+use Rattle.reading.specs.Syntax as syntax
+use Rattle.tokens.proofs.Views.{Known, known, known-word, known-mark}
+use Rattle.arguments.specs.Answers.{readIn, refusedBy}
+use Rattle.arguments.proofs.Reading.{read-token, rejected}
+use Rattle.arguments.proofs.Names.{same-name, in-text}
+use Rattle.syntax.specs.Answers.{letThen, LetFurther}
+use Rattle.syntax.proofs.Going.{let-further}
+use borrow.Author.Needs.{needs}
+use Rattle.syntax.proofs.let_name.Statement.{statement}
+use Rattle.syntax.proofs.let_name.Tie as tie
+
+-- what the token's kind tells
+here : (d : tie.After-token) → Known (now (d .before .before .args .text)) (d .before .before .args .cur .at) (d .token .result)
+here d = known _ _ (d .token .result) (d .token .ensures)
+
+beyond :
+    (e : tie.After-token2)
+    → Known (now (e .before .before .before .before .before .before .args .text)) (e .before .before .before .before .token .result .next .at)
+    (e .token2 .result)
+beyond e = known _ _ (e .token2 .result) (e .token2 .ensures)
+
+token-requires : tie.Need-token-requires
+token-requires c κs = search needs
+
+unexpected-requires : tie.Need-unexpected-requires
+unexpected-requires c κs = search needs
+
+returns : tie.Need-returns
+unfolding turn letThen LetFurther
+returns c =
+    let d = c .before .before .before .before in (
+      rejected (d .before .before .args .limit) _ letOpen _ (d .token .result) (here d) (λ w e. absurd (c .before .if1 .taken e)) (λ w e. refl) (λ h. refl)
+          ∙ ap refusedBy (sym (c .unexpected .ensures)),
+      tt,
+    )
+
+token-requires-2 : tie.Need-token-requires-2
+token-requires-2 c κs = search needs
+
+unexpected-requires-2 : tie.Need-unexpected-requires-2
+unexpected-requires-2 c κs = search needs
+
+returns-2 : tie.Need-returns-2
+unfolding turn letThen LetFurther
+returns-2 c =
+    let e = c .before .before .before .before in
+    let d = e .before .before .before .before in
+    let a = d .before .before .args in
+    let r = known-word (here d) (e .before .if1 .left) in (
+      read-token (a .limit) _ letOpen _ _ _ r
+          ∙ rejected (a .limit) _ (letNamed _) _ (e .token2 .result) (beyond e) (λ w q. refl) (λ w q. refl)
+          (λ h. simp (ne-eqb _ 44 (c .before .if2 .taken)))
+          ∙ ap refusedBy (sym (c .unexpected2 .ensures)),
+      tt,
+    )
+
+named-requires : tie.Need-named-requires
+named-requires c κs =
+    let r = known-word (here (c .before .before .before .before .before .before .before)) (c .before .before .before .before .if1 .left) in
+    omega (arith, r .wide)
+
+let-value-requires : tie.Need-let-value-requires
+let-value-requires c κs =
+    let e = c .before .before .before .before in
+    let d = e .before .before .before .before in
+    let r = known-word (here d) (e .before .if1 .left) in
+    (d .before .before .pre, in-text _ (d .token .result) (c .named .ensures) r)
+
+returns-3 : tie.Need-returns-3
+unfolding turn
+returns-3 c =
+    let e = c .before .before .before .before .before in
+    let d = e .before .before .before .before in
+    let a = d .before .before .args in
+    let s = now (a .text) in
+    let r = known-word (here d) (e .before .if1 .left) in
+    let q = known-mark (beyond e) 44 (c .before .before .if2 .left) (lit≤ tt) in (
+      read-token (a .limit) _ letOpen _ _ _ r
+          ∙ read-token (a .limit) _ (letNamed _) _ _ _ q
+          ∙ ap (λ (n : Name). readIn (a .limit) s (syntax.argument (letCall n)) (e .token2 .result .next .at))
+          (same-name s (d .token .result) (c .before .named .ensures))
+          ∙ c .let-value .ensures .0,
+      let-further _ _ _ (c .let-value .result) (omega (arith, r .ahead, r .wide, q .ahead, q .wide)) (c .let-value .ensures .1),
+    )
+
+pub let-name-spec : {M : Type 1} → statement M
+let-name-spec =
+    tie.close
+    (tie.spec
+    token-requires
+    unexpected-requires
+    returns
+    token-requires-2
+    unexpected-requires-2
+    returns-2
+    named-requires
+    let-value-requires
+    returns-3)
