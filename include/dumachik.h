@@ -41,7 +41,7 @@ extern "C" {
 #define MFL_ENTRY_LIMIT 64
 #define MFL_COUNT_LIMIT 64
 
-/* The most numbers that mfl_statement writes: COVARIATE with two lists of 64 names and all seven effects. */
+/* mfl_statement never writes more numbers (proved). COVARIATE with two lists of 64 names and all seven effects has as many. */
 #define MFL_STATEMENT_ROOM 272
 
 /* A refusal's number, 0 where the answer is none; and its place. */
@@ -72,15 +72,16 @@ uint64_t mfl_print(const uint8_t *text, size_t length, uint8_t *out, size_t room
  *   4   a list of counts: how many, the counts
  *   5   N
  *   6   a symbol: the offset and the length of its name, without the `@`
- *   7   names, also the values of a LET: how many, the offset and the length of each, sorted by offset
+ *   7   names: how many, the offset and the length of each, sorted by offset
  *   8   a name alone (ALLOMETRY's two, LET's first): its offset and its length
  *   9   an argument that was left out
  *   10  the operator `*`, also where it is not written
  *   11  the operator `+`
+ *   12  the values of a LET: how many, of each its kind (0 a word, 1 a number), its offset and its length, sorted by offset
  *
  * PERIPHERALS and TRANSITS have counts and modes (or 9); COVARIATE has parameters, covariates, modes and an operator; ALLOMETRY a name alone
  * and another (or 9); INDIRECTEFFECT modes twice; IIV and IOV parameters and modes; COVARIANCE modes and parameters; LET a name alone and
- * names; the others modes. The families are, from place 0:
+ * values; the others modes. The families are, from place 0:
  *
  *   ABSORPTION                                    INST FO ZO SEQ-ZO-FO WEIBULL
  *   ELIMINATION                                   FO ZO MM MIX-FO-MM

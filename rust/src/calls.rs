@@ -11,7 +11,7 @@ mod library {
     }
 }
 
-/// The most numbers that [`statement_into`] writes: COVARIATE with two lists of 64 names and all seven effects.
+/// [`statement_into`] never writes more numbers (proved). COVARIATE with two lists of 64 names and all seven effects has as many.
 pub const STATEMENT_ROOM: usize = 272;
 
 /// The offset of the first byte that starts no token, or the text's length where there is none. Of a text of any length.

@@ -33,8 +33,8 @@ use std::fmt;
 pub use calls::{count, print_into, scan, statement_into, STATEMENT_ROOM};
 pub use refusal::{Fault, Refusal};
 pub use tree::{
-    AbsorptionMode, Counts, CovariateEffect, CovariateOp, DepotMode, EliminationMode, Feature, LagtimeMode, MetaboliteMode, Mode, Modes,
-    Operand, PdMode, PeripheralKind, ProductionMode, Statement, TransitCounts, VariabilityEffect, VariabilityLevel,
+    AbsorptionMode, Counts, CovariateEffect, CovariateOp, DepotMode, EliminationMode, Feature, Item, LagtimeMode, MetaboliteMode, Mode,
+    Modes, Operand, PdMode, PeripheralKind, ProductionMode, Statement, TransitCounts, VariabilityEffect, VariabilityLevel,
 };
 
 /// The most bytes of a text.

@@ -2,7 +2,7 @@
 //!
 //! The layout is proved of the call, so what departs from it is a broken library: that ends in a panic, never in a wrong tree.
 
-use crate::tree::{Counts, CovariateOp, Feature, Mode, Modes, Operand, Statement, TransitCounts};
+use crate::tree::{Counts, CovariateOp, Feature, Item, Mode, Modes, Operand, Statement, TransitCounts};
 
 /// The numbers not taken yet, and the text that their offsets point into.
 struct Numbers<'a> {
@@ -51,17 +51,9 @@ impl Numbers<'_> {
             11 => Feature::Iiv { optional, parameters: self.operand(), effects: self.modes() },
             12 => Feature::Iov { optional, parameters: self.operand(), effects: self.modes() },
             13 => Feature::Covariance { optional, level: self.modes(), parameters: self.operand() },
-            14 => return self.let_statement(),
+            14 => return Statement::Let { name: self.name_alone(), values: self.values() },
             other => panic!("{other} is no keyword"),
         })
-    }
-
-    fn let_statement(&mut self) -> Statement {
-        let name = self.name_alone();
-        match self.operand() {
-            Operand::Names(values) => Statement::Let { name, values },
-            other => panic!("{other:?} are no values of a LET"),
-        }
     }
 
     fn unless_left_out<A>(&mut self, argument: impl Fn(&mut Self) -> A) -> Option<A> {
@@ -121,6 +113,20 @@ impl Numbers<'_> {
     fn name_alone(&mut self) -> String {
         assert_eq!(self.next(), 8, "a name alone");
         self.name()
+    }
+
+    fn values(&mut self) -> Vec<Item> {
+        assert_eq!(self.next(), 12, "the values of a LET");
+        self.list(Self::value)
+    }
+
+    /// A kind, and what it is a kind of.
+    fn value(&mut self) -> Item {
+        match self.next() {
+            0 => Item::Word(self.name()),
+            1 => Item::Number(self.name()),
+            other => panic!("{other} is no kind of a value"),
+        }
     }
 
     /// An offset and a length.

@@ -6,9 +6,25 @@ pub enum Statement {
     /// `LET(NAME, [a, b])`: defines `@NAME`.
     Let {
         name: String,
-        values: Vec<String>,
+        values: Vec<Item>,
     },
     Feature(Feature),
+}
+
+/// A value of a LET, as written.
+#[derive(Debug, Clone, PartialEq, Eq, Hash)]
+pub enum Item {
+    Word(String),
+    Number(String),
+}
+
+impl Item {
+    /// The value without its kind.
+    pub fn text(&self) -> &str {
+        match self {
+            Item::Word(text) | Item::Number(text) => text,
+        }
+    }
 }
 
 #[derive(Debug, Clone, PartialEq, Eq, Hash)]

@@ -1,7 +1,7 @@
 //! Every feature as a tree, and spaces as a whole.
 use dumachik::{
-    count, AbsorptionMode, Counts, CovariateEffect, CovariateOp, DepotMode, EliminationMode, Feature, LagtimeMode, MetaboliteMode, Mfl,
-    Mode, Modes, Operand, PdMode, PeripheralKind, ProductionMode, Statement, TransitCounts, VariabilityEffect, VariabilityLevel,
+    count, AbsorptionMode, Counts, CovariateEffect, CovariateOp, DepotMode, EliminationMode, Feature, Item, LagtimeMode, MetaboliteMode,
+    Mfl, Mode, Modes, Operand, PdMode, PeripheralKind, ProductionMode, Statement, TransitCounts, VariabilityEffect, VariabilityLevel,
     STATEMENT_ROOM,
 };
 
@@ -82,11 +82,20 @@ fn operands() {
 fn names_alone() {
     reads("ALLOMETRY(WT)", Feature::Allometry { covariate: "WT".into(), reference: None });
     reads("ALLOMETRY(WT,70.0)", Feature::Allometry { covariate: "WT".into(), reference: Some("70.0".into()) });
-    let space = Mfl::parse("LET(x,1.5)\nLET(N,[a-b,_])").unwrap();
-    let wanted =
-        [Statement::Let { name: "x".into(), values: names(&["1.5"]) }, Statement::Let { name: "N".into(), values: names(&["a-b", "_"]) }];
-    assert_eq!(space.statements(), wanted);
+    let space = Mfl::parse("LET(x,1.5)\nLET(N,[a-b,007,_])").unwrap();
+    let lets = |name: &str, values| Statement::Let { name: name.into(), values };
+    let (word, number) = (|text: &str| Item::Word(text.into()), |text: &str| Item::Number(text.into()));
+    assert_eq!(space.statements(), [lets("x", vec![number("1.5")]), lets("N", vec![word("a-b"), number("007"), word("_")])]);
     assert_eq!(space.features().count(), 0);
+    assert_eq!((word("WT").text(), number("70").text()), ("WT", "70"));
+}
+
+/// The numbers of a LET, the kind of each value before its place.
+#[test]
+fn values_by_kind() {
+    let mut out = [0; STATEMENT_ROOM];
+    assert_eq!(dumachik::statement_into(b";let(Pk, [CL, 7, E2])", 0, &mut out), Ok(16));
+    assert_eq!(out[..16], [14, 0, 8, 5, 2, 12, 3, 0, 10, 2, 1, 14, 1, 0, 17, 2]);
 }
 
 /// The largest answer of Statement fits `STATEMENT_ROOM` exactly.

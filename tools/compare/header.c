@@ -69,11 +69,12 @@ int main(void) {
     prints("", 0, 0, "");
 
     const char *space = "LET(X,[WT]);COVARIATE?([CL,V],@X,[lin,exp],+);PERIPHERALS(0..2)";
-    states(space, 0, MFL_STATEMENT_ROOM, 9, (uint32_t[]){14, 0, 8, 4, 1, 7, 1, 7, 2});
+    states(space, 0, MFL_STATEMENT_ROOM, 10, (uint32_t[]){14, 0, 8, 4, 1, 12, 1, 0, 7, 2});
     states(space, 1, 16, 16, (uint32_t[]){5, 1, 7, 2, 24, 2, 27, 1, 6, 31, 1, 1, 2, 0, 2, 11});
     states(space, 1, 15, refusal(19, 0), NULL);
     states(space, 2, MFL_STATEMENT_ROOM, 6, (uint32_t[]){2, 0, 3, 0, 2, 9});
     states(space, 3, MFL_STATEMENT_ROOM, refusal(20, 3), NULL);
+    states("let(x, [1.5, a])", 0, 13, 13, (uint32_t[]){14, 0, 8, 4, 1, 12, 2, 1, 8, 3, 0, 13, 1});
     states("LAGTIME(MAYBE)", 7, MFL_STATEMENT_ROOM, refusal(10, 8), NULL);
 
     printf("%d passed, %d failed\n", passed, failed);

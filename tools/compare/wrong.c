@@ -19,6 +19,7 @@ enum {
     late_label_in_upper_case,
     levels_swapped,
     repeated_name_given_once,
+    last_number_of_a_let_called_a_word,
     index_of_20_lost,
     number_written_before_19,
     late_statement_optional,
@@ -62,6 +63,7 @@ uint64_t mfl_statement(const uint8_t *text, size_t length, uint32_t index, uint3
     }
     if (WRONG == repeated_name_given_once && out[2] == 7 && out[3] == 3 && out[5] == out[7] && memcmp(text + out[4], text + out[6], out[5]) == 0)
         out[6] = out[4];
+    if (WRONG == last_number_of_a_let_called_a_word && out[0] == 14 && out[6] > 1) out[answer - 3] = 0;
     if (WRONG == late_statement_optional && index > 200) out[1] ^= 1;
     return answer;
 }

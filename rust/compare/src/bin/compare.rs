@@ -24,7 +24,8 @@ mod comparison {
 
     use compare::mfl;
     use compare::texts::{Kind, Texts};
-    use dumachik::{count, print_into, scan, statement, statement_into, Refusal, MAX_ENTRIES, MAX_STATEMENTS, MAX_TEXT, STATEMENT_ROOM};
+    use dumachik::{count, print_into, scan, statement, statement_into, Refusal, Statement};
+    use dumachik::{MAX_ENTRIES, MAX_STATEMENTS, MAX_TEXT, STATEMENT_ROOM};
 
     /// What stands in outputs before a call.
     const BYTE: u8 = 0xa5;
@@ -306,16 +307,15 @@ mod comparison {
     /// behind the last. Gives how many.
     fn stated(text: &[u8], wanted: &[mfl::Statement]) -> Result<usize, String> {
         let number = wanted.len();
-        let all = dumachik::Mfl::parse(text).map(|space| format!("{:?}", space.statements()));
-        ensure(all == Ok(format!("{wanted:?}")), || format!("statements {all:?}, the source {wanted:?}"))?;
+        let all = dumachik::Mfl::parse(text).map(|space| space.statements().iter().map(shown).collect::<Vec<_>>());
+        let same = all.as_ref().is_ok_and(|all| *all == wanted.iter().map(|statement| format!("{statement:?}")).collect::<Vec<_>>());
+        ensure(same, || format!("statements {all:?}, the source {wanted:?}"))?;
         let indexes: Vec<usize> = match number {
             0..=8 => (0..number).collect(),
             _ => [0, number - 1].into_iter().chain((1..=6).map(|k| (k * 41 + text.len()) % number)).collect(),
         };
         for &index in &indexes {
-            // The two trees have the same names, so the same words of `Debug`.
-            let found = statement(text, index as u32);
-            let (ours, theirs) = (found.map(|statement| format!("{statement:?}")), format!("{:?}", wanted[index]));
+            let (ours, theirs) = (statement(text, index as u32).map(|found| shown(&found)), format!("{:?}", wanted[index]));
             ensure(ours.as_ref() == Ok(&theirs), || format!("statement {index}: {ours:?}, the source {theirs}"))?;
             numbered(text, index as u32)?;
         }
@@ -327,6 +327,18 @@ mod comparison {
             ensure(out.iter().all(|&number| number == NUMBER), || format!("Statement {past} writes, and refuses"))?;
         }
         Ok(number)
+    }
+
+    /// A statement as the source's is shown. The two trees have the same names, so the same words of `Debug`; but the source keeps a LET's values
+    /// without their kinds, which `ordered` looks at.
+    fn shown(statement: &Statement) -> String {
+        match statement {
+            Statement::Let { name, values } => {
+                let values = values.iter().map(|value| value.text().to_string()).collect();
+                format!("{:?}", mfl::Statement::Let { name: name.clone(), values })
+            }
+            Statement::Feature(_) => format!("{statement:?}"),
+        }
     }
 
     /// Statement with outputs one short, exact and long; the pairs of each list in order, apart, and in the text.
@@ -345,7 +357,8 @@ mod comparison {
         ordered(text, &long[..length]).ok_or_else(|| format!("the pairs of {:?}", &long[..length]))
     }
 
-    /// Walks a statement's numbers by their kinds. Each pair must be a whole word or number of the text, behind the one before.
+    /// Walks a statement's numbers by their kinds. Each pair must be a whole word or number of the text, behind the one before; a value of a LET
+    /// is a number by its kind exactly where it starts with a digit.
     fn ordered(text: &[u8], numbers: &[u32]) -> Option<()> {
         let part = |byte: &u8| byte.is_ascii_alphanumeric() || b"_-.".contains(byte);
         let mut left = numbers.get(2..)?;
@@ -357,16 +370,21 @@ mod comparison {
                 2 => (1, 0),
                 3 => (2, 0),
                 6 | 8 => (0, 1),
-                7 => (1, *rest.first()? as usize),
+                7 | 12 => (1, *rest.first()? as usize),
                 _ => return None,
             };
             left = rest.get(skipped..)?;
             for _ in 0..pairs {
-                let [offset, length, rest @ ..] = left else { return None };
+                let (said, pair) = left.split_at_checked(usize::from(*kind == 12))?;
+                let [offset, length, rest @ ..] = pair else { return None };
                 let (offset, end) = (*offset as usize, *offset as usize + *length as usize);
                 let name = text.get(offset..end)?;
                 let apart = !text[..offset].last().is_some_and(part) && !text[end..].first().is_some_and(part);
                 if offset < behind || name.is_empty() || !name.iter().all(part) || !apart {
+                    return None;
+                }
+                let digit = u32::from(name[0].is_ascii_digit());
+                if said.first().is_some_and(|&said| said != digit) {
                     return None;
                 }
                 behind = end;
