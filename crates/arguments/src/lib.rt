@@ -17,6 +17,7 @@ use forms::Arg;
 use forms::Items;
 use forms::Name;
 use forms::Refusal;
+use tokens::Classes;
 use tokens::Cursor;
 use tokens::Token;
 
@@ -45,14 +46,14 @@ pub enum After {
 pub fn unexpected(token: Token) -> Refusal
     ensures { λ r. ⌜ r ≡ refusalOf token ⌝ }
 {
-    if token.kind == 2 {
+    if token.kind == tokens::BAD {
         return Refusal {
-            number: 2,
+            number: forms::BAD_BYTE,
             place: token.start,
         };
     }
     Refusal {
-        number: 3,
+        number: forms::UNEXPECTED,
         place: token.start,
     }
 }
@@ -69,14 +70,14 @@ pub fn named(token: Token) -> Name
 }
 
 // The name behind an `@` that stands at `sign`.
-fn symbol(text: &[u8], classes: &[u8; 256], sign: usize, cur: Cursor) -> ArgRead
+fn symbol(text: &[u8], classes: &Classes, sign: usize, cur: Cursor) -> ArgRead
     requires { ⌜ now classes ≡ classTable ⌝ }
     ensures { λ r. ⌜ ((limit : ℕ) (c : Call) → readIn limit (now (text .entry)) (atSign c sign) (cur .at) ≡ argThen limit (now (text .entry)) c r) ⌝ }
     ensures { λ r. ⌜ ArgFurther (now (text .entry)) (cur .at) r ⌝ }
 {
     let token = cur.token(text, classes);
     let next = token.next;
-    if token.kind != 0 {
+    if token.kind != tokens::WORD {
         return ArgRead::Refused(unexpected(token));
     }
     let name = named(token);
@@ -95,19 +96,19 @@ fn range_of(text: &[u8], low: Name, high: Name, limit: u32, next: Cursor) -> Arg
 {
     let Counted::Count(a) = forms::count_at(text, low, limit) else {
         return ArgRead::Refused(Refusal {
-            number: 4,
+            number: forms::BAD_COUNT,
             place: low.offset,
         });
     };
     let Counted::Count(b) = forms::count_at(text, high, limit) else {
         return ArgRead::Refused(Refusal {
-            number: 4,
+            number: forms::BAD_COUNT,
             place: high.offset,
         });
     };
     if b < a {
         return ArgRead::Refused(Refusal {
-            number: 5,
+            number: forms::BACKWARDS,
             place: low.offset,
         });
     }
@@ -122,7 +123,7 @@ fn range_of(text: &[u8], low: Name, high: Name, limit: u32, next: Cursor) -> Arg
 }
 
 // A number, which a `..` and another may follow.
-fn number(text: &[u8], classes: &[u8; 256], name: Name, cur: Cursor, limit: u32) -> ArgRead
+fn number(text: &[u8], classes: &Classes, name: Name, cur: Cursor, limit: u32) -> ArgRead
     requires { ⌜ (now classes ≡ classTable) × Stands (now text) aNumber name × (cur .at ≤ length (now text)) ⌝ }
     ensures { λ r. ⌜ ((c : Call) → readIn limit (now (text .entry)) (numberRead c (nameIn (now (text .entry)) name)) (cur .at) ≡ argThen limit (now (text .entry)) c r) ⌝ }
     ensures { λ r. ⌜ ArgFurther (now (text .entry)) (cur .at) r ⌝ }
@@ -133,7 +134,7 @@ fn number(text: &[u8], classes: &[u8; 256], name: Name, cur: Cursor, limit: u32)
         return ArgRead::Arg(Arg::Number(name), cur);
     }
     let end = next.token(text, classes);
-    if end.kind != 1 {
+    if end.kind != tokens::NUMBER {
         return ArgRead::Refused(unexpected(end));
     }
     let high = named(end);
@@ -142,7 +143,7 @@ fn number(text: &[u8], classes: &[u8; 256], name: Name, cur: Cursor, limit: u32)
 }
 
 // What stands behind an entry of an array.
-fn after_entry(text: &[u8], classes: &[u8; 256], cur: Cursor) -> Entry
+fn after_entry(text: &[u8], classes: &Classes, cur: Cursor) -> Entry
     requires { ⌜ now classes ≡ classTable ⌝ }
     ensures { λ r. ⌜
         ((limit : ℕ) (c : Call) (p : ℕ) (items : List Item)
@@ -162,7 +163,7 @@ fn after_entry(text: &[u8], classes: &[u8; 256], cur: Cursor) -> Entry
 }
 
 // An entry of an array that has `count` before it, and what stands behind it.
-fn read_entry(text: &[u8], classes: &[u8; 256], cur: Cursor, count: usize) -> Entry
+fn read_entry(text: &[u8], classes: &Classes, cur: Cursor, count: usize) -> Entry
     requires { ⌜ now classes ≡ classTable ⌝ }
     ensures { λ r. ⌜
         ((limit : ℕ) (c : Call) (p : ℕ) (items : List Item)
@@ -175,12 +176,12 @@ fn read_entry(text: &[u8], classes: &[u8; 256], cur: Cursor, count: usize) -> En
 {
     let token = cur.token(text, classes);
     let next = token.next;
-    if 1 < token.kind {
+    if tokens::NUMBER < token.kind {
         return Entry::Refused(unexpected(token));
     }
     if 64 <= count {
         return Entry::Refused(Refusal {
-            number: 11,
+            number: forms::TOO_MANY,
             place: token.start,
         });
     }
@@ -188,7 +189,7 @@ fn read_entry(text: &[u8], classes: &[u8; 256], cur: Cursor, count: usize) -> En
 }
 
 // An array whose `[` stands at `bracket`.
-fn array(text: &[u8], classes: &[u8; 256], bracket: usize, cur: Cursor) -> ArgRead
+fn array(text: &[u8], classes: &Classes, bracket: usize, cur: Cursor) -> ArgRead
     requires { ⌜ now classes ≡ classTable ⌝ }
     ensures { λ r. ⌜ ((limit : ℕ) (c : Call) → readIn limit (now (text .entry)) (arrayOpen c bracket) (cur .at) ≡ argThen limit (now (text .entry)) c r) ⌝ }
     ensures { λ r. ⌜ ArgFurther (now (text .entry)) (cur .at) r ⌝ }
@@ -231,7 +232,7 @@ fn array(text: &[u8], classes: &[u8; 256], bracket: usize, cur: Cursor) -> ArgRe
 }
 
 // One argument.
-pub fn argument(text: &[u8], classes: &[u8; 256], cur: Cursor, limit: u32) -> ArgRead
+pub fn argument(text: &[u8], classes: &Classes, cur: Cursor, limit: u32) -> ArgRead
     requires { ⌜ now classes ≡ classTable ⌝ }
     ensures { λ r. ⌜ ((c : Call) → readIn limit (now (text .entry)) (argument·state c) (cur .at) ≡ argThen limit (now (text .entry)) c r) ⌝ }
     ensures { λ r. ⌜ ArgFurther (now (text .entry)) (cur .at) r ⌝ }
@@ -240,11 +241,11 @@ pub fn argument(text: &[u8], classes: &[u8; 256], cur: Cursor, limit: u32) -> Ar
     let next = token.next;
     let kind = token.kind;
     match kind {
-        0 => {
+        tokens::WORD => {
             let name = named(token);
             ArgRead::Arg(Arg::Word(name), next)
         }
-        1 => {
+        tokens::NUMBER => {
             let name = named(token);
             number(text, classes, name, next, limit)
         }
@@ -261,7 +262,7 @@ pub fn argument(text: &[u8], classes: &[u8; 256], cur: Cursor, limit: u32) -> Ar
 }
 
 // What stands behind an argument.
-pub fn after_argument(text: &[u8], classes: &[u8; 256], cur: Cursor) -> After
+pub fn after_argument(text: &[u8], classes: &Classes, cur: Cursor) -> After
     requires { ⌜ now classes ≡ classTable ⌝ }
     ensures { λ r. ⌜
         ((limit : ℕ) (c : Call) (a : Arg·spec)

@@ -31,6 +31,8 @@ use forms::Operand;
 use forms::Refusal;
 use labels::Family;
 use labels::Found;
+use labels::Labels;
+use tokens::Classes;
 use tokens::Cursor;
 
 // Whether all entries of a list are in order.
@@ -80,7 +82,7 @@ pub struct Entry {
 fn kind_of(kind: u8) -> Kind
     ensures { λ r. ⌜ r ≡ kindOf kind ⌝ }
 {
-    if kind == 1 {
+    if kind == tokens::NUMBER {
         return Kind::Number;
     }
     Kind::Word
@@ -96,7 +98,7 @@ fn is_word(kind: Kind) -> bool
 }
 
 // The entry that stands at the cursor, or after the blanks there.
-pub fn entry_at(text: &[u8], classes: &[u8; 256], cur: Cursor) -> Entry
+pub fn entry_at(text: &[u8], classes: &Classes, cur: Cursor) -> Entry
     requires { ⌜ (now classes ≡ classTable) × (listed 1 (tokensFrom (now text) (cur .at)) ≡ true) ⌝ }
     ensures { λ r. ⌜ EntryHere (now (text .entry)) (cur .at) r ⌝ }
 {
@@ -114,7 +116,7 @@ pub fn entry_at(text: &[u8], classes: &[u8; 256], cur: Cursor) -> Entry
 }
 
 // The cursor behind the next token: the `,` between two entries.
-pub fn past_comma(text: &[u8], classes: &[u8; 256], cur: Cursor) -> Cursor
+pub fn past_comma(text: &[u8], classes: &Classes, cur: Cursor) -> Cursor
     requires { ⌜ now classes ≡ classTable ⌝ }
     ensures { λ r. ⌜ rest (tokensFrom (now (text .entry)) (cur .at)) ≡ tokensFrom (now (text .entry)) (r .at) ⌝ }
 {
@@ -123,7 +125,7 @@ pub fn past_comma(text: &[u8], classes: &[u8; 256], cur: Cursor) -> Cursor
 }
 
 // A name's bytes looked up in a family.
-pub fn mode_at(text: &[u8], labels: &[u8; 608], family: Family, name: Name) -> Found
+pub fn mode_at(text: &[u8], labels: &Labels, family: Family, name: Name) -> Found
     requires { ⌜ (now labels ≡ labelTable) × InText (now text) name ⌝ }
     ensures { λ r. ⌜ r ≡ foundAs (find (nameIn (now (text .entry)) name .spelling) (labelsOf family)) ⌝ }
 {
@@ -135,8 +137,8 @@ pub fn mode_at(text: &[u8], labels: &[u8; 608], family: Family, name: Name) -> F
 // A list as modes of a family, each once.
 fn listed_modes(
     text: &[u8],
-    classes: &[u8; 256],
-    labels: &[u8; 608],
+    classes: &Classes,
+    labels: &Labels,
     family: Family,
     items: Items,
 ) -> ModesRead
@@ -152,7 +154,7 @@ fn listed_modes(
         match mode_at(text, labels, family, name) {
             Found::Nothing => {
                 return ModesRead::Refused(Refusal {
-                    number: 10,
+                    number: forms::UNKNOWN_MODE,
                     place: name.offset,
                 });
             }
@@ -171,7 +173,7 @@ fn wrong(at: usize) -> Refusal
     ensures { λ r. ⌜ r ≡ record { number = 9; place = at } ⌝ }
 {
     Refusal {
-        number: 9,
+        number: forms::WRONG_ARGUMENT,
         place: at,
     }
 }
@@ -198,8 +200,8 @@ pub fn place_of(arg: Arg) -> usize
 // An argument as modes of a family: a word, an array that is not empty, or `*`.
 pub fn modes_of(
     text: &[u8],
-    classes: &[u8; 256],
-    labels: &[u8; 608],
+    classes: &Classes,
+    labels: &Labels,
     family: Family,
     arg: Arg,
 ) -> ModesRead
@@ -220,21 +222,21 @@ pub fn modes_of(
 }
 
 // A word alone as a mode of a family: it is looked up as it stands.
-fn lone_mode(text: &[u8], labels: &[u8; 608], family: Family, name: Name) -> ModesRead
+fn lone_mode(text: &[u8], labels: &Labels, family: Family, name: Name) -> ModesRead
     requires { ⌜ (now labels ≡ labelTable) × InText (now text) name ⌝ }
     ensures { λ r. ⌜ modesAs r ≡ loneMode family aWord (nameIn (now (text .entry)) name) ⌝ }
 {
     match mode_at(text, labels, family, name) {
         Found::Place(place) => ModesRead::Modes(Modes::List(place as u32 + 1)),
         Found::Nothing => ModesRead::Refused(Refusal {
-            number: 10,
+            number: forms::UNKNOWN_MODE,
             place: name.offset,
         }),
     }
 }
 
 // Whether each entry of the array at `at` is a count.
-fn check_counts(text: &[u8], classes: &[u8; 256], at: usize, items: Items, limit: u32) -> Checked
+fn check_counts(text: &[u8], classes: &Classes, at: usize, items: Items, limit: u32) -> Checked
     requires { ⌜ (now classes ≡ classTable) × Listed (now text) items ⌝ }
     ensures { λ r. ⌜ countList limit at (itemsIn (now (text .entry)) items) ≡ checkedAs (valuesIn (itemsIn (now (text .entry)) items)) r ⌝ }
 {
@@ -250,7 +252,7 @@ fn check_counts(text: &[u8], classes: &[u8; 256], at: usize, items: Items, limit
         match forms::count_at(text, name, limit) {
             Counted::Refused => {
                 return Checked::Refused(Refusal {
-                    number: 4,
+                    number: forms::BAD_COUNT,
                     place: name.offset,
                 });
             }
@@ -264,7 +266,7 @@ fn check_counts(text: &[u8], classes: &[u8; 256], at: usize, items: Items, limit
 }
 
 // An argument as counts: a number, a range, or an array of numbers that is not empty.
-pub fn counts_of(text: &[u8], classes: &[u8; 256], arg: Arg, limit: u32) -> CountsRead
+pub fn counts_of(text: &[u8], classes: &Classes, arg: Arg, limit: u32) -> CountsRead
     requires { ⌜ (now classes ≡ classTable) × Fits (now text) arg ⌝ }
     ensures { λ r. ⌜ countsAs (now (text .entry)) r ≡ countsOf limit (argIn (now (text .entry)) arg) ⌝ }
 {
@@ -284,20 +286,14 @@ fn lone_count(text: &[u8], name: Name, limit: u32) -> CountsRead
     match forms::count_at(text, name, limit) {
         Counted::Count(value) => CountsRead::Counts(Counts::Single(value)),
         Counted::Refused => CountsRead::Refused(Refusal {
-            number: 4,
+            number: forms::BAD_COUNT,
             place: name.offset,
         }),
     }
 }
 
 // An array as counts.
-fn listed_counts(
-    text: &[u8],
-    classes: &[u8; 256],
-    at: usize,
-    items: Items,
-    limit: u32,
-) -> CountsRead
+fn listed_counts(text: &[u8], classes: &Classes, at: usize, items: Items, limit: u32) -> CountsRead
     requires { ⌜ (now classes ≡ classTable) × Listed (now text) items ⌝ }
     ensures { λ r. ⌜ countsAs (now (text .entry)) r ≡ countsOf limit (array at (itemsIn (now (text .entry)) items)) ⌝ }
 {

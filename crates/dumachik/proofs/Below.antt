@@ -24,7 +24,7 @@ use Rattle.canonical_laws.proofs.Rereading.{few-statements}
 use Rattle.canonical_laws.proofs.Numbers.{few-numbers}
 use Rattle.statements.specs.Answers.{counted, chosen, nthOf}
 use Rattle.statements.proofs.Found.{found-well}
-use Rattle.values.specs.Calls.{counting}
+use Rattle.statements.specs.Answers.{counting}
 use Rattle.statement_numbers.specs.Answers.{numbered, numbering}
 use Rattle.dumachik.specs.Word.{Below}
 

@@ -8,7 +8,8 @@ use lib.ListN.{length}
 use Rattle.reading.specs.Statement.{Statement}
 use Rattle.reading.specs.Answer.{Answer, accepted, refused}
 use Rattle.canonical_laws.proofs.Offsets.{numbers-raised}
-use Rattle.values.specs.Calls.{counting, stating, raised}
+use Rattle.values.specs.Calls.{raised}
+use Rattle.statements.specs.Answers.{counting, stating}
 use Rattle.values.proofs.Joining.{joined}
 use Rattle.statement_numbers.specs.Answers.{numbered}
 use Rattle.dumachik.specs.Joined.{numbersOn, NumbersJoined}

@@ -5,7 +5,7 @@ ghost use lib.ListN.{length};
 ghost use Rattle.tokens.specs.Lex.{tokens};
 ghost use Rattle.tokens.specs.Next.{scanned};
 ghost use Rattle.canonical.specs.Print.{printText, lengthOf, fitting, output};
-ghost use Rattle.values.specs.Calls.{counting};
+ghost use Rattle.statements.specs.Answers.{counting};
 ghost use Rattle.statement_numbers.specs.Answers.{numbering};
 ghost use Rattle.dumachik.specs.Scan.{strayAt};
 ghost use Rattle.dumachik.specs.Word.{word};

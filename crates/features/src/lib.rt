@@ -34,6 +34,9 @@ use forms::SomeName;
 use forms::TransitCounts;
 use labels::Family;
 use labels::Found;
+use labels::Keywords;
+use labels::Labels;
+use tokens::Classes;
 
 pub enum Built {
     Feature(Feature),
@@ -76,7 +79,7 @@ fn wrong_number(at: usize) -> Refusal
     ensures { λ r. ⌜ r ≡ record { number = 8; place = at } ⌝ }
 {
     Refusal {
-        number: 8,
+        number: forms::WRONG_NUMBER,
         place: at,
     }
 }
@@ -87,7 +90,7 @@ fn mandatory(feature: Feature, optional: bool, at: usize) -> Built
 {
     if optional {
         return Built::Refused(Refusal {
-            number: 7,
+            number: forms::NOT_OPTIONAL,
             place: at,
         });
     }
@@ -124,8 +127,8 @@ fn feature_with(alone: Alone, modes: Modes) -> Feature
 // A feature of one argument, which is modes, and no `?`.
 fn modes_alone(
     text: &[u8],
-    classes: &[u8; 256],
-    labels: &[u8; 608],
+    classes: &Classes,
+    labels: &Labels,
     alone: Alone,
     args: Args,
     optional: bool,
@@ -147,8 +150,8 @@ fn modes_alone(
 // Modes as the second argument, which may be left out.
 fn second_modes(
     text: &[u8],
-    classes: &[u8; 256],
-    labels: &[u8; 608],
+    classes: &Classes,
+    labels: &Labels,
     family: Family,
     args: Args,
 ) -> SomeModesRead
@@ -167,8 +170,8 @@ fn second_modes(
 
 fn peripherals(
     text: &[u8],
-    classes: &[u8; 256],
-    labels: &[u8; 608],
+    classes: &Classes,
+    labels: &Labels,
     args: Args,
     optional: bool,
     at: usize,
@@ -204,7 +207,7 @@ fn peripherals(
 }
 
 // Counts or N as the first argument. N takes no second one.
-fn transits_of(text: &[u8], classes: &[u8; 256], args: Args, limit: u32) -> TransitsRead
+fn transits_of(text: &[u8], classes: &Classes, args: Args, limit: u32) -> TransitsRead
     requires { ⌜ (now classes ≡ classTable) × AllFit (now text) args ⌝ }
     ensures { λ r. ⌜ transitsAs (now (text .entry)) r ≡ transitsOf limit (argIn (now (text .entry)) (args .first)) (secondIn (now (text .entry)) args) ⌝ }
 {
@@ -215,7 +218,7 @@ fn transits_of(text: &[u8], classes: &[u8; 256], args: Args, limit: u32) -> Tran
         }
         let second = args.second;
         return TransitsRead::Refused(Refusal {
-            number: 9,
+            number: forms::WRONG_ARGUMENT,
             place: checks::place_of(second),
         });
     }
@@ -227,8 +230,8 @@ fn transits_of(text: &[u8], classes: &[u8; 256], args: Args, limit: u32) -> Tran
 
 fn transits(
     text: &[u8],
-    classes: &[u8; 256],
-    labels: &[u8; 608],
+    classes: &Classes,
+    labels: &Labels,
     args: Args,
     optional: bool,
     at: usize,
@@ -271,7 +274,7 @@ fn explicit(arg: Arg, modes: Modes, optional: bool) -> ModesRead
     }
     match modes {
         Modes::Wildcard => ModesRead::Refused(Refusal {
-            number: 9,
+            number: forms::WRONG_ARGUMENT,
             place: checks::place_of(arg),
         }),
         Modes::List(items) => ModesRead::Modes(Modes::List(items)),
@@ -281,8 +284,8 @@ fn explicit(arg: Arg, modes: Modes, optional: bool) -> ModesRead
 // An argument as the effects of COVARIATE.
 fn effects_of(
     text: &[u8],
-    classes: &[u8; 256],
-    labels: &[u8; 608],
+    classes: &Classes,
+    labels: &Labels,
     arg: Arg,
     optional: bool,
 ) -> ModesRead
@@ -309,8 +312,8 @@ fn operator(args: Args) -> OpRead
 // COVARIATE of parameters and covariates that are read.
 fn covariate_with(
     text: &[u8],
-    classes: &[u8; 256],
-    labels: &[u8; 608],
+    classes: &Classes,
+    labels: &Labels,
     parameters: Operand,
     covariates: Operand,
     args: Args,
@@ -337,8 +340,8 @@ fn covariate_with(
 
 fn covariate(
     text: &[u8],
-    classes: &[u8; 256],
-    labels: &[u8; 608],
+    classes: &Classes,
+    labels: &Labels,
     args: Args,
     optional: bool,
     at: usize,
@@ -413,8 +416,8 @@ fn allometry(args: Args, optional: bool, at: usize) -> Built
 
 fn indirect_effect(
     text: &[u8],
-    classes: &[u8; 256],
-    labels: &[u8; 608],
+    classes: &Classes,
+    labels: &Labels,
     args: Args,
     optional: bool,
     at: usize,
@@ -447,7 +450,7 @@ fn indirect_effect(
 }
 
 // The arguments of IIV and IOV.
-fn eta(text: &[u8], classes: &[u8; 256], labels: &[u8; 608], args: Args, at: usize) -> EtaRead
+fn eta(text: &[u8], classes: &Classes, labels: &Labels, args: Args, at: usize) -> EtaRead
     requires { ⌜ (now classes ≡ classTable) × (now labels ≡ labelTable) × AllFit (now text) args ⌝ }
     ensures { λ r. ⌜ ((k : Name·spec) → k .place ≡ at → etaAs (now (text .entry)) r ≡ etaOf k (argsIn (now (text .entry)) args)) ⌝ }
 {
@@ -473,8 +476,8 @@ fn eta(text: &[u8], classes: &[u8; 256], labels: &[u8; 608], args: Args, at: usi
 
 fn iiv(
     text: &[u8],
-    classes: &[u8; 256],
-    labels: &[u8; 608],
+    classes: &Classes,
+    labels: &Labels,
     args: Args,
     optional: bool,
     at: usize,
@@ -494,8 +497,8 @@ fn iiv(
 
 fn iov(
     text: &[u8],
-    classes: &[u8; 256],
-    labels: &[u8; 608],
+    classes: &Classes,
+    labels: &Labels,
     args: Args,
     optional: bool,
     at: usize,
@@ -515,8 +518,8 @@ fn iov(
 
 fn covariance(
     text: &[u8],
-    classes: &[u8; 256],
-    labels: &[u8; 608],
+    classes: &Classes,
+    labels: &Labels,
     args: Args,
     optional: bool,
     at: usize,
@@ -545,8 +548,8 @@ fn covariance(
 // The first seven keywords of the table.
 fn build_early(
     text: &[u8],
-    classes: &[u8; 256],
-    labels: &[u8; 608],
+    classes: &Classes,
+    labels: &Labels,
     keyword: usize,
     args: Args,
     optional: bool,
@@ -579,8 +582,8 @@ fn build_early(
 // The other keywords of the table, of which LET is no feature's.
 fn build_late(
     text: &[u8],
-    classes: &[u8; 256],
-    labels: &[u8; 608],
+    classes: &Classes,
+    labels: &Labels,
     keyword: usize,
     args: Args,
     optional: bool,
@@ -608,7 +611,7 @@ fn build_late(
         12 => iov(text, classes, labels, args, optional, at),
         13 => covariance(text, classes, labels, args, optional, at),
         _ => Built::Refused(Refusal {
-            number: 6,
+            number: forms::UNKNOWN_KEYWORD,
             place: at,
         }),
     }
@@ -617,8 +620,8 @@ fn build_late(
 // A feature by its keyword's place in the table.
 pub fn build_known(
     text: &[u8],
-    classes: &[u8; 256],
-    labels: &[u8; 608],
+    classes: &Classes,
+    labels: &Labels,
     keyword: usize,
     args: Args,
     optional: bool,
@@ -637,9 +640,9 @@ pub fn build_known(
 // A feature by its keyword and its arguments, with its `?`, under a limit for counts.
 pub fn build(
     text: &[u8],
-    classes: &[u8; 256],
-    labels: &[u8; 608],
-    keys: &[u8; 240],
+    classes: &Classes,
+    labels: &Labels,
+    keys: &Keywords,
     keyword: Name,
     args: Args,
     optional: bool,
@@ -663,7 +666,7 @@ pub fn build(
             limit,
         ),
         Found::Nothing => Built::Refused(Refusal {
-            number: 6,
+            number: forms::UNKNOWN_KEYWORD,
             place: start,
         }),
     }

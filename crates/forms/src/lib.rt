@@ -52,6 +52,33 @@ pub struct Args {
     pub fourth: Arg,
 }
 
+// The faults of reading, printing and Statement by their numbers.
+pub const TOO_LONG: u8 = 1;
+
+pub const BAD_BYTE: u8 = 2;
+
+pub const UNEXPECTED: u8 = 3;
+
+pub const BAD_COUNT: u8 = 4;
+
+pub const BACKWARDS: u8 = 5;
+
+pub const UNKNOWN_KEYWORD: u8 = 6;
+
+pub const NOT_OPTIONAL: u8 = 7;
+
+pub const WRONG_NUMBER: u8 = 8;
+
+pub const WRONG_ARGUMENT: u8 = 9;
+
+pub const UNKNOWN_MODE: u8 = 10;
+
+pub const TOO_MANY: u8 = 11;
+
+pub const TOO_SHORT: u8 = 19;
+
+pub const NO_STATEMENT: u8 = 20;
+
 // Why a text is refused: the fault's number and its place.
 pub struct Refusal {
     pub number: u8,

@@ -1,5 +1,6 @@
 // The tokens of a text as an answer.
 use crate::output;
+use tokens::Classes;
 use tokens::Cursor;
 use tokens::Lexed;
 use tokens::Scanned;
@@ -32,7 +33,7 @@ struct Written {
 }
 
 // The first token from an offset on. Where there is none, nothing is left of the text.
-fn put_token(text: &[u8], classes: &[u8; 256], at: usize, out: &mut [u8], len: usize) -> Written
+fn put_token(text: &[u8], classes: &Classes, at: usize, out: &mut [u8], len: usize) -> Written
     requires { ⌜ (now classes ≡ classTable) × (at < length (now text)) ⌝ }
     ensures { λ r. ⌜ at < r .at ⌝ }
 {
@@ -74,7 +75,7 @@ fn put_token(text: &[u8], classes: &[u8; 256], at: usize, out: &mut [u8], len: u
     }
 }
 
-fn put_tokens(text: &[u8], classes: &[u8; 256], out: &mut [u8], len: usize) -> usize
+fn put_tokens(text: &[u8], classes: &Classes, out: &mut [u8], len: usize) -> usize
     requires { ⌜ now classes ≡ classTable ⌝ }
 {
     let mut now = Written { at: 0, len };

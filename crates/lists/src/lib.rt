@@ -14,6 +14,7 @@ use forms::Item;
 use forms::Items;
 use forms::Kind;
 use forms::Name;
+use tokens::Classes;
 
 fn no_items() -> [Item; 64]
     ensures { λ r. ⌜ length r ≡ 64 ⌝ }
@@ -28,7 +29,7 @@ fn no_items() -> [Item; 64]
 }
 
 // The entries of a list, in its order, which is that of their offsets.
-pub fn items_of(text: &[u8], classes: &[u8; 256], items: Items) -> [Item; 64]
+pub fn items_of(text: &[u8], classes: &Classes, items: Items) -> [Item; 64]
     requires { ⌜ (now classes ≡ classTable) × Listed (now text) items ⌝ }
     ensures { λ r. ⌜ take (items .count) r ≡ itemsFor (itemsIn (now (text .entry)) items) ⌝ }
 {
@@ -64,7 +65,7 @@ fn no_counts() -> [u32; 64]
 }
 
 // The counts of a list, in its order.
-pub fn counts_of(text: &[u8], classes: &[u8; 256], items: Items) -> [u32; 64]
+pub fn counts_of(text: &[u8], classes: &Classes, items: Items) -> [u32; 64]
     requires { ⌜ (now classes ≡ classTable) × Listed (now text) items ⌝ }
     ensures { λ r. ⌜ take (items .count) r ≡ valuesIn (itemsIn (now (text .entry)) items) ⌝ }
 {

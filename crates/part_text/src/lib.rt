@@ -22,6 +22,8 @@ use forms::Modes;
 use forms::Name;
 use forms::Operand;
 use labels::Family;
+use labels::Labels;
+use tokens::Classes;
 
 // What an entry of a list is printed as: the name as it is written, or its count.
 pub enum Entry {
@@ -82,7 +84,7 @@ fn put_comma(out: &mut [u8], at: usize, left: usize) -> usize
 // The entries of a list, with a `,` between two.
 fn put_entries(
     text: &[u8],
-    classes: &[u8; 256],
+    classes: &Classes,
     entry: Entry,
     items: Items,
     out: &mut [u8],
@@ -110,7 +112,7 @@ fn put_entries(
 // A list in its brackets.
 fn put_bracketed(
     text: &[u8],
-    classes: &[u8; 256],
+    classes: &Classes,
     entry: Entry,
     items: Items,
     out: &mut [u8],
@@ -140,7 +142,7 @@ fn is_bare(entry: Entry, count: usize) -> bool
 // A list: one name bare, all others in their brackets.
 fn put_list(
     text: &[u8],
-    classes: &[u8; 256],
+    classes: &Classes,
     entry: Entry,
     items: Items,
     out: &mut [u8],
@@ -159,7 +161,7 @@ fn put_list(
 }
 
 // A list of names, bare if it is one name.
-pub fn put_names(text: &[u8], classes: &[u8; 256], items: Items, out: &mut [u8], at: usize) -> usize
+pub fn put_names(text: &[u8], classes: &Classes, items: Items, out: &mut [u8], at: usize) -> usize
     requires { ⌜ (now classes ≡ classTable) × Listed (now text) items
         × Room at (spellAll (bareOne (map itemShape (itemsIn (now text) items)))) ⌝ }
     ensures { λ r. ⌜ Written (now (out .entry)) at
@@ -183,7 +185,7 @@ fn put_range(out: &mut [u8], at: usize, low: u32, high: u32) -> usize
 // Counts: a number, a range's two ends with `..` between them, or a list in its brackets.
 pub fn put_counts(
     text: &[u8],
-    classes: &[u8; 256],
+    classes: &Classes,
     counts: Counts,
     out: &mut [u8],
     at: usize,
@@ -213,7 +215,7 @@ fn put_symbol(text: &[u8], name: Name, out: &mut [u8], at: usize) -> usize
 // Parameters or covariates: `*`, a symbol behind its `@`, or names.
 pub fn put_operand(
     text: &[u8],
-    classes: &[u8; 256],
+    classes: &Classes,
     operand: Operand,
     out: &mut [u8],
     at: usize,
@@ -243,7 +245,7 @@ fn put_mode_comma(out: &mut [u8], at: usize, left: u32) -> usize
 }
 
 // The labels of modes, with a `,` between two.
-fn put_labels(labels: &[u8; 608], family: Family, packed: u32, out: &mut [u8], at: usize) -> usize
+fn put_labels(labels: &Labels, family: Family, packed: u32, out: &mut [u8], at: usize) -> usize
     requires { ⌜ (now labels ≡ labelTable) × Room at (spellAll (entryShapes (map (labelShape family) (places packed)))) ⌝ }
     ensures { λ r. ⌜ Written (now (out .entry)) at
         (spellAll (entryShapes (map (labelShape family) (places packed))))
@@ -261,7 +263,7 @@ fn put_labels(labels: &[u8; 608], family: Family, packed: u32, out: &mut [u8], a
 }
 
 // The labels of modes in their brackets, or bare if it is one.
-fn put_chosen(labels: &[u8; 608], family: Family, packed: u32, out: &mut [u8], at: usize) -> usize
+fn put_chosen(labels: &Labels, family: Family, packed: u32, out: &mut [u8], at: usize) -> usize
     requires { ⌜ (now labels ≡ labelTable) × Room at (spellAll (bareOne (map (labelShape family) (places packed)))) ⌝ }
     ensures { λ r. ⌜ Written (now (out .entry)) at
         (spellAll (bareOne (map (labelShape family) (places packed))))
@@ -276,7 +278,7 @@ fn put_chosen(labels: &[u8; 608], family: Family, packed: u32, out: &mut [u8], a
 }
 
 // Modes: `*`, or the labels of a list.
-pub fn put_modes(labels: &[u8; 608], family: Family, modes: Modes, out: &mut [u8], at: usize) -> usize
+pub fn put_modes(labels: &Labels, family: Family, modes: Modes, out: &mut [u8], at: usize) -> usize
     requires { ⌜ (now labels ≡ labelTable) × Room at (spellAll (modesShapes family (modesIn modes))) ⌝ }
     ensures { λ r. ⌜ Written (now (out .entry)) at
         (spellAll (modesShapes family (modesIn modes)))

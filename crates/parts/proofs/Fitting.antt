@@ -29,8 +29,10 @@ module _ (limit : ℕ) where
   all-left : (ps qs : List reading.Part) → all (wellPart limit) (ps ++ qs) ≡ true → all (wellPart limit) ps ≡ true
   all-left [] qs e = refl
   all-left (p ∷ ps) qs e =
-      simp (and-left (wellPart limit p) (all (wellPart limit) (ps ++ qs)) e,
-        all-left ps qs (and-right (wellPart limit p) (all (wellPart limit) (ps ++ qs)) e))
+      simp (
+        and-left (wellPart limit p) (all (wellPart limit) (ps ++ qs)) e,
+        all-left ps qs (and-right (wellPart limit p) (all (wellPart limit) (ps ++ qs)) e),
+      )
 
   all-right : (ps qs : List reading.Part) → all (wellPart limit) (ps ++ qs) ≡ true → all (wellPart limit) qs ≡ true
   all-right [] qs e = e

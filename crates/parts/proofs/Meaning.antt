@@ -1,4 +1,5 @@
--- The parts of a form are those of the statement that it stands for; the first is always printed, and the keyword is one of the table.
+-- The parts of a form are those of the statement that it stands for; the first is always printed, the keyword is one of the table, and lists
+-- stand in the first two alone.
 -- Assumes nothing.
 use Prim.Native.Nat.{ℕ, _<_}
 use mathlib.Core.Path.{_≡_, refl}
@@ -32,7 +33,7 @@ use Rattle.forms.specs.declared.Feature.the-variants.{
 use Rattle.forms.specs.declared.Statement.{Statement}
 use Rattle.forms.specs.declared.Statement.the-variants as statement
 use Rattle.forms.specs.Forms.{transitsIn, someModesIn, someNameIn, featureIn, statementIn}
-use Rattle.parts.specs.Apart.{featureApart, apart, isWritten}
+use Rattle.parts.specs.Apart.{featureApart, apart, isWritten, noCounts, isPlain}
 use Rattle.parts.specs.Meaning.{partsIn}
 
 -- What is said of every form.
@@ -40,26 +41,29 @@ pub record Taken (s : List ℕ) (st : Statement) : Type 0 where
   pub mean : partsIn s (apart st) ≡ partsOf (statementIn s st)
   pub written : isWritten (apart st .first) ≡ true
   pub known : apart st .keyword < length keywords
+  pub second : noCounts (apart st .second) ≡ true
+  pub third : isPlain (apart st .third) ≡ true
+  pub fourth : isPlain (apart st .fourth) ≡ true
 
 pub taken : (s : List ℕ) (st : Statement) → Taken s st
 unfolding partsIn apart featureApart statementIn featureIn partsOf featureParts transitsIn someModesIn someNameIn keywords
-taken s (statement.Let n is) = record { mean = refl; written = refl; known = lit< tt }
-taken s (statement.Feature (Absorption m)) = record { mean = refl; written = refl; known = lit< tt }
-taken s (statement.Feature (Elimination m)) = record { mean = refl; written = refl; known = lit< tt }
-taken s (statement.Feature (Peripherals c someModes.Absent)) = record { mean = refl; written = refl; known = lit< tt }
-taken s (statement.Feature (Peripherals c (someModes.Given k))) = record { mean = refl; written = refl; known = lit< tt }
-taken s (statement.Feature (Transits transits.N someModes.Absent)) = record { mean = refl; written = refl; known = lit< tt }
-taken s (statement.Feature (Transits transits.N (someModes.Given d))) = record { mean = refl; written = refl; known = lit< tt }
-taken s (statement.Feature (Transits (transits.Counts c) someModes.Absent)) = record { mean = refl; written = refl; known = lit< tt }
-taken s (statement.Feature (Transits (transits.Counts c) (someModes.Given d))) = record { mean = refl; written = refl; known = lit< tt }
-taken s (statement.Feature (Lagtime m)) = record { mean = refl; written = refl; known = lit< tt }
-taken s (statement.Feature (Covariate o p c e op)) = record { mean = refl; written = refl; known = lit< tt }
-taken s (statement.Feature (Allometry n someName.Absent)) = record { mean = refl; written = refl; known = lit< tt }
-taken s (statement.Feature (Allometry n (someName.Given r))) = record { mean = refl; written = refl; known = lit< tt }
-taken s (statement.Feature (DirectEffect m)) = record { mean = refl; written = refl; known = lit< tt }
-taken s (statement.Feature (EffectComp m)) = record { mean = refl; written = refl; known = lit< tt }
-taken s (statement.Feature (IndirectEffect m p)) = record { mean = refl; written = refl; known = lit< tt }
-taken s (statement.Feature (Metabolite m)) = record { mean = refl; written = refl; known = lit< tt }
-taken s (statement.Feature (Iiv o p e)) = record { mean = refl; written = refl; known = lit< tt }
-taken s (statement.Feature (Iov o p e)) = record { mean = refl; written = refl; known = lit< tt }
-taken s (statement.Feature (Covariance o l p)) = record { mean = refl; written = refl; known = lit< tt }
+taken s (statement.Let n is) = record { mean = refl; written = refl; known = lit< tt; second = refl; third = refl; fourth = refl }
+taken s (statement.Feature (Absorption m)) = record { mean = refl; written = refl; known = lit< tt; second = refl; third = refl; fourth = refl }
+taken s (statement.Feature (Elimination m)) = record { mean = refl; written = refl; known = lit< tt; second = refl; third = refl; fourth = refl }
+taken s (statement.Feature (Peripherals c someModes.Absent)) = record { mean = refl; written = refl; known = lit< tt; second = refl; third = refl; fourth = refl }
+taken s (statement.Feature (Peripherals c (someModes.Given k))) = record { mean = refl; written = refl; known = lit< tt; second = refl; third = refl; fourth = refl }
+taken s (statement.Feature (Transits transits.N someModes.Absent)) = record { mean = refl; written = refl; known = lit< tt; second = refl; third = refl; fourth = refl }
+taken s (statement.Feature (Transits transits.N (someModes.Given d))) = record { mean = refl; written = refl; known = lit< tt; second = refl; third = refl; fourth = refl }
+taken s (statement.Feature (Transits (transits.Counts c) someModes.Absent)) = record { mean = refl; written = refl; known = lit< tt; second = refl; third = refl; fourth = refl }
+taken s (statement.Feature (Transits (transits.Counts c) (someModes.Given d))) = record { mean = refl; written = refl; known = lit< tt; second = refl; third = refl; fourth = refl }
+taken s (statement.Feature (Lagtime m)) = record { mean = refl; written = refl; known = lit< tt; second = refl; third = refl; fourth = refl }
+taken s (statement.Feature (Covariate o p c e op)) = record { mean = refl; written = refl; known = lit< tt; second = refl; third = refl; fourth = refl }
+taken s (statement.Feature (Allometry n someName.Absent)) = record { mean = refl; written = refl; known = lit< tt; second = refl; third = refl; fourth = refl }
+taken s (statement.Feature (Allometry n (someName.Given r))) = record { mean = refl; written = refl; known = lit< tt; second = refl; third = refl; fourth = refl }
+taken s (statement.Feature (DirectEffect m)) = record { mean = refl; written = refl; known = lit< tt; second = refl; third = refl; fourth = refl }
+taken s (statement.Feature (EffectComp m)) = record { mean = refl; written = refl; known = lit< tt; second = refl; third = refl; fourth = refl }
+taken s (statement.Feature (IndirectEffect m p)) = record { mean = refl; written = refl; known = lit< tt; second = refl; third = refl; fourth = refl }
+taken s (statement.Feature (Metabolite m)) = record { mean = refl; written = refl; known = lit< tt; second = refl; third = refl; fourth = refl }
+taken s (statement.Feature (Iiv o p e)) = record { mean = refl; written = refl; known = lit< tt; second = refl; third = refl; fourth = refl }
+taken s (statement.Feature (Iov o p e)) = record { mean = refl; written = refl; known = lit< tt; second = refl; third = refl; fourth = refl }
+taken s (statement.Feature (Covariance o l p)) = record { mean = refl; written = refl; known = lit< tt; second = refl; third = refl; fourth = refl }

@@ -96,3 +96,26 @@ isWritten (Name n) = true
 isWritten (Values is) = true
 isWritten (Op op) = false
 isWritten Omitted = false
+
+-- a part that has no counts, and one that has no list
+abbrev pub noCounts : Part → Bool
+noCounts Absent = true
+noCounts (Modes f m) = true
+noCounts (Counts c) = false
+noCounts N = true
+noCounts (Operand p) = true
+noCounts (Name n) = true
+noCounts (Values is) = true
+noCounts (Op op) = true
+noCounts Omitted = true
+
+abbrev pub isPlain : Part → Bool
+isPlain Absent = true
+isPlain (Modes f m) = true
+isPlain (Counts c) = false
+isPlain N = true
+isPlain (Operand p) = false
+isPlain (Name n) = true
+isPlain (Values is) = false
+isPlain (Op op) = true
+isPlain Omitted = true

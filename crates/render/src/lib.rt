@@ -10,12 +10,15 @@ ghost use Rattle.parts.specs.Apart.{apart};
 ghost use Rattle.parts.specs.Meaning.{PartsFit};
 ghost use Rattle.writing.specs.Written.{Room, Written};
 ghost use Rattle.render.specs.Text.{Accepted, pieceOf, jointOf, Prints, printedAs, Answers, KeptAs};
-use forms::Items;
-use forms::Name;
+use forms::Feature;
+use forms::Modes;
 use forms::Refusal;
 use forms::Statement;
+use labels::Keywords;
+use labels::Labels;
 use statements::CountRead;
 use statements::NextRead;
+use tokens::Classes;
 use tokens::Cursor;
 
 // How many bytes the canonical text has, or why there is none.
@@ -38,9 +41,9 @@ fn put_joint(n: usize, out: &mut [u8], at: usize) -> usize
 // A statement, where `n` were printed before.
 fn put_next(
     text: &[u8],
-    classes: &[u8; 256],
-    labels: &[u8; 608],
-    keys: &[u8; 240],
+    classes: &Classes,
+    labels: &Labels,
+    keys: &Keywords,
     n: usize,
     statement: Statement,
     out: &mut [u8],
@@ -57,9 +60,9 @@ fn put_next(
 // The canonical text of a text that is accepted, as far as the buffer has room, and its length.
 fn put_text(
     text: &[u8],
-    classes: &[u8; 256],
-    labels: &[u8; 608],
-    keys: &[u8; 240],
+    classes: &Classes,
+    labels: &Labels,
+    keys: &Keywords,
     out: &mut [u8],
     limit: u32,
 ) -> usize
@@ -86,9 +89,9 @@ fn put_text(
 // than that: by printing it into none of the buffer.
 fn print_accepted(
     text: &[u8],
-    classes: &[u8; 256],
-    labels: &[u8; 608],
-    keys: &[u8; 240],
+    classes: &Classes,
+    labels: &Labels,
+    keys: &Keywords,
     out: &mut [u8],
     limit: u32,
 ) -> Printed
@@ -101,7 +104,7 @@ fn print_accepted(
     let length = put_text(text, classes, labels, keys, &mut out[..0], limit);
     if out.len() < length {
         return Printed::Refused(Refusal {
-            number: 19,
+            number: forms::TOO_SHORT,
             place: 0,
         });
     }
@@ -116,18 +119,9 @@ pub enum Kept {
     More,
 }
 
-// A form that stands for none.
+// A form that stands for none. All its bytes are zero, so that an array of it is made at once.
 fn no_form() -> Statement {
-    Statement::Let {
-        name: Name {
-            offset: 0,
-            length: 0,
-        },
-        values: Items {
-            first: Cursor::new(),
-            count: 0,
-        },
-    }
+    Statement::Feature(Feature::Absorption(Modes::Wildcard))
 }
 
 fn few_forms() -> [Statement; 32]
@@ -146,9 +140,9 @@ fn many_forms() -> [Statement; 256]
 // its type, and a short text is not to pay for an array of 256: so there is this function and `print_many`, which differ in the array alone.
 fn print_few(
     text: &[u8],
-    classes: &[u8; 256],
-    labels: &[u8; 608],
-    keys: &[u8; 240],
+    classes: &Classes,
+    labels: &Labels,
+    keys: &Keywords,
     out: &mut [u8],
     limit: u32,
 ) -> Kept
@@ -186,9 +180,9 @@ fn print_few(
 // The same for up to 256 statements, as many as a text may have.
 fn print_many(
     text: &[u8],
-    classes: &[u8; 256],
-    labels: &[u8; 608],
-    keys: &[u8; 240],
+    classes: &Classes,
+    labels: &Labels,
+    keys: &Keywords,
     out: &mut [u8],
     limit: u32,
 ) -> Kept
@@ -226,9 +220,9 @@ fn print_many(
 // The same, by the text's length: few short texts have more than 32 statements.
 fn print_kept(
     text: &[u8],
-    classes: &[u8; 256],
-    labels: &[u8; 608],
-    keys: &[u8; 240],
+    classes: &Classes,
+    labels: &Labels,
+    keys: &Keywords,
     out: &mut [u8],
     limit: u32,
 ) -> Kept
@@ -269,7 +263,7 @@ pub fn print_under(text: &[u8], out: &mut [u8], limit: u32) -> Printed
 {
     if 16384 < text.len() {
         return Printed::Refused(Refusal {
-            number: 1,
+            number: forms::TOO_LONG,
             place: 0,
         });
     }

@@ -47,9 +47,11 @@ module _ (s : List ℕ) (r : Parts) where
   unfolding partsIn
   parts-numbers =
       ap (λ (l : List ℕ). headNumbers (r .keyword) (r .optional) ++ l)
-      (rw (all-more (partIn s (r .first)) (partIn s (r .second) ++ (partIn s (r .third) ++ partIn s (r .fourth))),
+      (rw (
+        all-more (partIn s (r .first)) (partIn s (r .second) ++ (partIn s (r .third) ++ partIn s (r .fourth))),
         all-more (partIn s (r .second)) (partIn s (r .third) ++ partIn s (r .fourth)),
-        all-more (partIn s (r .third)) (partIn s (r .fourth))))
+        all-more (partIn s (r .third)) (partIn s (r .fourth)),
+      ))
 
 -- The numbers of a form are those of the statement that it stands for.
 pub statement-numbers : (s : List ℕ) (st : form.Statement) → takenIn s (apart st) ≡ numbersOf (statementIn s st)
@@ -64,10 +66,10 @@ pub numbers-ready :
 numbers-ready limit s i st e =
     let w = found-well limit s i (statementIn s st) e in
     rw (statement-numbers s st) (
-      record {
-        room = omega (arith, few-numbers limit (statementIn s st) w);
-        small = found-passes (λ x. all isSmall (numbersOf x)) i (statementIn s st) (readText limit s) (small-numbers limit s) e;
-      }
+    record {
+      room = omega (arith, few-numbers limit (statementIn s st) w);
+      small = found-passes (λ x. all isSmall (numbersOf x)) i (statementIn s st) (readText limit s) (small-numbers limit s) e;
+    }
     )
 
 module _ (out ns none : List ℕ) (size : ℕ) (measured : Written [] 0 ns none size) where

@@ -4,7 +4,7 @@ use mathlib.Core.List.{List}
 use Rattle.reading.specs.Statement.{Statement}
 use Rattle.reading.specs.Answer.{Answer, accepted, refused}
 use Rattle.canonical.specs.Numbers.{numbersOf}
-use Rattle.values.specs.Calls.{stating}
+use Rattle.statements.specs.Answers.{stating}
 use Rattle.statement_numbers.specs.declared.NumbersAt.{NumbersAt}
 use Rattle.statement_numbers.specs.declared.NumbersAt.the-variants as numbersAt
 

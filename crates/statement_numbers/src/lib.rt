@@ -31,6 +31,7 @@ use forms::Statement;
 use parts::Part;
 use parts::Parts;
 use statements::StatementAt;
+use tokens::Classes;
 
 // What is written of an entry of a list: its pair, its kind and its pair, or its count.
 pub enum Entry {
@@ -124,7 +125,7 @@ fn put_entry(text: &[u8], entry: Entry, here: Here, out: &mut [u32], at: usize) 
 // The entries of a list.
 fn put_entries(
     text: &[u8],
-    classes: &[u8; 256],
+    classes: &Classes,
     entry: Entry,
     items: Items,
     out: &mut [u32],
@@ -148,7 +149,7 @@ fn put_entries(
 // A list behind the number for its kind and how many entries it has.
 fn put_list(
     text: &[u8],
-    classes: &[u8; 256],
+    classes: &Classes,
     kind: usize,
     entry: Entry,
     items: Items,
@@ -207,13 +208,7 @@ fn put_modes(modes: Modes, out: &mut [u32], at: usize) -> usize
 }
 
 // Counts: a number, a range's two ends, or those of a list.
-fn put_counts(
-    text: &[u8],
-    classes: &[u8; 256],
-    counts: Counts,
-    out: &mut [u32],
-    at: usize,
-) -> usize
+fn put_counts(text: &[u8], classes: &Classes, counts: Counts, out: &mut [u32], at: usize) -> usize
     requires { ⌜ (now classes ≡ classTable) × CountsFit (now text) counts × Ready at (countsNumbers (countsIn (now text) counts)) ⌝ }
     ensures { λ r. ⌜ Written (now (out .entry)) at (countsNumbers (countsIn (now (text .entry)) counts)) (now (out .exit)) r ⌝ }
 {
@@ -227,7 +222,7 @@ fn put_counts(
 // Parameters or covariates: `*`, a symbol, or names.
 fn put_operand(
     text: &[u8],
-    classes: &[u8; 256],
+    classes: &Classes,
     operand: Operand,
     out: &mut [u32],
     at: usize,
@@ -254,7 +249,7 @@ fn put_op(op: CovariateOp, out: &mut [u32], at: usize) -> usize
 }
 
 // An argument.
-fn put_part(text: &[u8], classes: &[u8; 256], part: Part, out: &mut [u32], at: usize) -> usize
+fn put_part(text: &[u8], classes: &Classes, part: Part, out: &mut [u32], at: usize) -> usize
     requires { ⌜ (now classes ≡ classTable) × PartFits (now text) part × Ready at (numbersIn (now text) part) ⌝ }
     ensures { λ r. ⌜ Written (now (out .entry)) at (numbersIn (now (text .entry)) part) (now (out .exit)) r ⌝ }
 {
@@ -283,7 +278,7 @@ fn put_head(keyword: usize, optional: bool, out: &mut [u32], at: usize) -> usize
 }
 
 // A statement that was taken apart.
-fn put_parts(text: &[u8], classes: &[u8; 256], parts: Parts, out: &mut [u32], at: usize) -> usize
+fn put_parts(text: &[u8], classes: &Classes, parts: Parts, out: &mut [u32], at: usize) -> usize
     requires { ⌜ (now classes ≡ classTable) × PartsFit (now text) parts × Ready at (takenIn (now text) parts) ⌝ }
     ensures { λ r. ⌜ Written (now (out .entry)) at (takenIn (now (text .entry)) parts) (now (out .exit)) r ⌝ }
 {
@@ -299,7 +294,7 @@ fn put_parts(text: &[u8], classes: &[u8; 256], parts: Parts, out: &mut [u32], at
 }
 
 // The numbers of a statement that was read: they are counted first, on none of the buffer.
-fn put_whole(text: &[u8], classes: &[u8; 256], parts: Parts, out: &mut [u32]) -> NumbersAt
+fn put_whole(text: &[u8], classes: &Classes, parts: Parts, out: &mut [u32]) -> NumbersAt
     requires { ⌜ (now classes ≡ classTable) × PartsFit (now text) parts × Ready 0 (takenIn (now text) parts) ⌝ }
     ensures { λ r. ⌜ (numbersAs r ≡ lengthOf (fitting (length (now (out .entry))) (accepted (takenIn (now (text .entry)) parts))))
         × (now (out .exit) ≡ output (fitting (length (now (out .entry))) (accepted (takenIn (now (text .entry)) parts))) (now (out .entry))) ⌝ }
@@ -308,7 +303,7 @@ fn put_whole(text: &[u8], classes: &[u8; 256], parts: Parts, out: &mut [u32]) ->
     let size = put_parts(text, classes, parts, &mut out[..0], 0);
     if room < size {
         return NumbersAt::Refused(Refusal {
-            number: 19,
+            number: forms::TOO_SHORT,
             place: 0,
         });
     }

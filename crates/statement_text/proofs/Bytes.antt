@@ -112,12 +112,14 @@ module _ (s : List ℕ) (r : Parts) where
   parts-bytes w =
       call-bytes (getD keywords (r .keyword) []) (r .optional) (partsShapes (partsIn s r .arguments))
       ∙ ap (λ (l : List ℕ). headOf (getD keywords (r .keyword) []) (r .optional) ++ l)
-      (rw (all-more (partIn s (r .first)) (partIn s (r .second) ++ (partIn s (r .third) ++ partIn s (r .fourth))),
+      (rw (
+        all-more (partIn s (r .first)) (partIn s (r .second) ++ (partIn s (r .third) ++ partIn s (r .fourth))),
         all-more (partIn s (r .second)) (partIn s (r .third) ++ partIn s (r .fourth)),
         all-more (partIn s (r .third)) (partIn s (r .fourth)),
         first-more s (r .first) (shapesIn s (r .second) ++ (shapesIn s (r .third) ++ shapesIn s (r .fourth))) w,
         behind-more (shapesIn s (r .second)) (shapesIn s (r .third) ++ shapesIn s (r .fourth)),
-        behind-more (shapesIn s (r .third)) (shapesIn s (r .fourth)))
+        behind-more (shapesIn s (r .third)) (shapesIn s (r .fourth)),
+      )
       (simp append-assoc))
 
 -- A statement's bytes are those of its parts.

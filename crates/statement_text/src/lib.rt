@@ -16,8 +16,11 @@ ghost use Rattle.parts.specs.Meaning.{PartFits, PartsFit};
 ghost use Rattle.statement_text.specs.Bytes.{headOf, behind, shapesIn, someShapes, bytesOf};
 use forms::CovariateOp;
 use forms::Statement;
+use labels::Keywords;
+use labels::Labels;
 use parts::Part;
 use parts::Parts;
+use tokens::Classes;
 
 fn is_plus(op: CovariateOp) -> bool
     ensures { λ r. ⌜ r ≡ someShapes (operatorShapes (opAs op)) ⌝ }
@@ -59,8 +62,8 @@ fn put_operator(op: CovariateOp, out: &mut [u8], at: usize) -> usize
 // A part.
 fn put_part(
     text: &[u8],
-    classes: &[u8; 256],
-    labels: &[u8; 608],
+    classes: &Classes,
+    labels: &Labels,
     part: Part,
     out: &mut [u8],
     at: usize,
@@ -87,8 +90,8 @@ fn put_part(
 // One more part behind its `,`, if it is printed.
 fn put_also(
     text: &[u8],
-    classes: &[u8; 256],
-    labels: &[u8; 608],
+    classes: &Classes,
+    labels: &Labels,
     part: Part,
     out: &mut [u8],
     at: usize,
@@ -117,7 +120,7 @@ fn put_question(out: &mut [u8], at: usize, optional: bool) -> usize
 }
 
 // A keyword, its `?` and its `(`.
-fn put_head(keys: &[u8; 240], place: usize, optional: bool, out: &mut [u8], at: usize) -> usize
+fn put_head(keys: &Keywords, place: usize, optional: bool, out: &mut [u8], at: usize) -> usize
     requires { ⌜ (now keys ≡ keywordTable) × (place < length keywords) × Room at (headOf (getD keywords place []) optional) ⌝ }
     ensures { λ r. ⌜ Written (now (out .entry)) at (headOf (getD keywords place []) optional) (now (out .exit)) r ⌝ }
 {
@@ -129,9 +132,9 @@ fn put_head(keys: &[u8; 240], place: usize, optional: bool, out: &mut [u8], at: 
 // A statement that was taken apart, in its canonical bytes. The names of its parts are pairs into `text`, whatever bytes these are.
 pub fn put_parts(
     text: &[u8],
-    classes: &[u8; 256],
-    labels: &[u8; 608],
-    keys: &[u8; 240],
+    classes: &Classes,
+    labels: &Labels,
+    keys: &Keywords,
     parts: Parts,
     out: &mut [u8],
     at: usize,
@@ -156,9 +159,9 @@ pub fn put_parts(
 // A statement of a text in its canonical bytes.
 pub fn put_statement(
     text: &[u8],
-    classes: &[u8; 256],
-    labels: &[u8; 608],
-    keys: &[u8; 240],
+    classes: &Classes,
+    labels: &Labels,
+    keys: &Keywords,
     statement: Statement,
     out: &mut [u8],
     at: usize,
@@ -170,5 +173,13 @@ pub fn put_statement(
         (spellAll (statementShapes (statementIn (now (text .entry)) statement)))
         (now (out .exit)) r ⌝ }
 {
-    put_parts(text, classes, labels, keys, parts::parts_of(statement), out, at)
+    put_parts(
+        text,
+        classes,
+        labels,
+        keys,
+        parts::parts_of(statement),
+        out,
+        at,
+    )
 }

@@ -112,3 +112,11 @@ nthOf i (refused k p) = refused k p
 unfoldable pub statementAs : List ℕ → StatementAt → Answer Statement
 statementAs s (statementAt.Statement f) = accepted (statementIn s f)
 statementAs s (statementAt.Refused r) = refused (r .number) (r .place)
+
+-- What the calls answer, for every text and index: their contracts say that Count's answer means `counting limit text`, and Statement's
+-- `stating limit text index`. The count limit is a parameter, 64 for both.
+abbrev pub counting : ℕ → List ℕ → Answer ℕ
+counting limit text = counted 0 (readText limit text)
+
+abbrev pub stating : ℕ → List ℕ → ℕ → Answer Statement
+stating limit text index = nthOf index (readText limit text)

@@ -9,19 +9,22 @@ ghost use Rattle.tokens.specs.Next.{tokenAt};
 ghost use Rattle.labels.specs.Word.{sameWord};
 ghost use Rattle.labels.specs.Table.{labelTable, keywordTable};
 ghost use Rattle.reading.specs.Syntax.{keyword, letKeyword, opened};
-ghost use Rattle.reading.specs.Read.{between, readText};
+ghost use Rattle.reading.specs.Read.{between};
 ghost use Rattle.forms.specs.Items.{nameIn};
 ghost use Rattle.forms.specs.Fits.{InText};
 ghost use Rattle.arguments.specs.Answers.{readIn, stepIn};
-ghost use Rattle.statements.specs.Answers.{statementThen, StatementFurther, FirstToken, EndedThen, EndedFurther, crowdedBy, readAt, nextThen, NextFurther, FirstFault, counted, countAs, indexed, nthAs, nthOf, statementAs};
-use syntax::FeatureRead;
-use syntax::LetRead;
+ghost use Rattle.statements.specs.Answers.{statementThen, StatementFurther, FirstToken, EndedThen, EndedFurther, crowdedBy, readAt, nextThen, NextFurther, FirstFault, counted, countAs, indexed, nthAs, statementAs, counting, stating};
 use checks::ItemsRead;
 use features::Built;
 use forms::Items;
 use forms::Name;
 use forms::Refusal;
 use forms::Statement;
+use labels::Keywords;
+use labels::Labels;
+use syntax::FeatureRead;
+use syntax::LetRead;
+use tokens::Classes;
 use tokens::Cursor;
 use tokens::Scanned;
 use tokens::Token;
@@ -75,7 +78,7 @@ fn is_let(text: &[u8], name: Name) -> bool
 }
 
 // A LET behind its keyword.
-fn let_statement(text: &[u8], classes: &[u8; 256], cur: Cursor, limit: u32) -> StatementRead
+fn let_statement(text: &[u8], classes: &Classes, cur: Cursor, limit: u32) -> StatementRead
     requires { ⌜ now classes ≡ classTable ⌝ }
     ensures { λ r. ⌜ readIn limit (now (text .entry)) letKeyword (cur .at) ≡ statementThen (now (text .entry)) r ⌝ }
     ensures { λ r. ⌜ StatementFurther (now (text .entry)) (cur .at) r ⌝ }
@@ -95,9 +98,9 @@ fn let_statement(text: &[u8], classes: &[u8; 256], cur: Cursor, limit: u32) -> S
 // A feature's statement behind its keyword.
 fn feature_statement(
     text: &[u8],
-    classes: &[u8; 256],
-    labels: &[u8; 608],
-    keys: &[u8; 240],
+    classes: &Classes,
+    labels: &Labels,
+    keys: &Keywords,
     name: Name,
     cur: Cursor,
     limit: u32,
@@ -122,9 +125,9 @@ fn feature_statement(
 // A statement behind its first word.
 fn statement(
     text: &[u8],
-    classes: &[u8; 256],
-    labels: &[u8; 608],
-    keys: &[u8; 240],
+    classes: &Classes,
+    labels: &Labels,
+    keys: &Keywords,
     name: Name,
     cur: Cursor,
     limit: u32,
@@ -143,7 +146,7 @@ fn statement(
 }
 
 // The first token, from the cursor on, that is no separator. Blanks and comments stand here more often than anywhere else.
-fn first_token(text: &[u8], classes: &[u8; 256], cur: Cursor) -> Token
+fn first_token(text: &[u8], classes: &Classes, cur: Cursor) -> Token
     requires { ⌜ now classes ≡ classTable ⌝ }
     ensures { λ r. ⌜ FirstToken (now (text .entry)) (cur .at) r ⌝ }
 {
@@ -159,7 +162,7 @@ fn first_token(text: &[u8], classes: &[u8; 256], cur: Cursor) -> Token
 
 // What stands behind the statement that is the `n`th: a separator, or the text's end. It is passed, with the blanks and the comment before
 // it, so that the next statement is not sought through them again.
-fn behind(text: &[u8], classes: &[u8; 256], cur: Cursor, n: usize) -> Ended
+fn behind(text: &[u8], classes: &Classes, cur: Cursor, n: usize) -> Ended
     requires { ⌜ now classes ≡ classTable ⌝ }
     ensures { λ r. ⌜ ((limit : ℕ) → EndedThen limit (now (text .entry)) n (cur .at) r) ⌝ }
     ensures { λ r. ⌜ EndedFurther (now (text .entry)) (cur .at) r ⌝ }
@@ -169,7 +172,7 @@ fn behind(text: &[u8], classes: &[u8; 256], cur: Cursor, n: usize) -> Ended
     if token.kind == b';' {
         return Ended::Fine(next);
     }
-    if token.kind == 3 {
+    if token.kind == tokens::END {
         return Ended::Fine(next);
     }
     Ended::Refused(crowded(token, n))
@@ -179,20 +182,20 @@ fn behind(text: &[u8], classes: &[u8; 256], cur: Cursor, n: usize) -> Ended
 fn crowded(token: Token, n: usize) -> Refusal
     ensures { λ r. ⌜ r ≡ crowdedBy token n ⌝ }
 {
-    if token.kind == 2 {
+    if token.kind == tokens::BAD {
         return Refusal {
-            number: 2,
+            number: forms::BAD_BYTE,
             place: token.start,
         };
     }
     if 256 <= n {
         return Refusal {
-            number: 11,
+            number: forms::TOO_MANY,
             place: token.start,
         };
     }
     Refusal {
-        number: 3,
+        number: forms::UNEXPECTED,
         place: token.start,
     }
 }
@@ -200,9 +203,9 @@ fn crowded(token: Token, n: usize) -> Refusal
 // The next statement, where `n` were read before.
 pub fn next_statement(
     text: &[u8],
-    classes: &[u8; 256],
-    labels: &[u8; 608],
-    keys: &[u8; 240],
+    classes: &Classes,
+    labels: &Labels,
+    keys: &Keywords,
     cur: Cursor,
     n: usize,
     limit: u32,
@@ -212,13 +215,13 @@ pub fn next_statement(
     ensures { λ r. ⌜ NextFurther (now (text .entry)) (cur .at) r ⌝ }
 {
     let token = first_token(text, classes, cur);
-    if token.kind == 3 {
+    if token.kind == tokens::END {
         return NextRead::End;
     }
     if 256 <= n {
         return NextRead::Refused(crowded(token, n));
     }
-    if token.kind != 0 {
+    if token.kind != tokens::WORD {
         return NextRead::Refused(crowded(token, n));
     }
     let next = token.next;
@@ -235,9 +238,9 @@ pub fn next_statement(
 // The number of statements, where the text's bytes are in order.
 fn count_from(
     text: &[u8],
-    classes: &[u8; 256],
-    labels: &[u8; 608],
-    keys: &[u8; 240],
+    classes: &Classes,
+    labels: &Labels,
+    keys: &Keywords,
     limit: u32,
 ) -> CountRead
     requires { ⌜ (now classes ≡ classTable) × (now labels ≡ labelTable) × (now keys ≡ keywordTable) ⌝ }
@@ -258,13 +261,13 @@ fn count_from(
 }
 
 // The refusal of a text whose statements were refused: a byte that starts no token comes before every other fault but the length.
-pub fn earliest(text: &[u8], classes: &[u8; 256], refusal: Refusal) -> Refusal
+pub fn earliest(text: &[u8], classes: &Classes, refusal: Refusal) -> Refusal
     requires { ⌜ now classes ≡ classTable ⌝ }
     ensures { λ r. ⌜ FirstFault (now (text .entry)) refusal r ⌝ }
 {
     match tokens::scan(text, classes) {
         Scanned::Stray(at) => Refusal {
-            number: 2,
+            number: forms::BAD_BYTE,
             place: at,
         },
         Scanned::Whole => refusal,
@@ -273,11 +276,11 @@ pub fn earliest(text: &[u8], classes: &[u8; 256], refusal: Refusal) -> Refusal
 
 // The number of statements of a text, or why it is refused.
 pub fn count_under(text: &[u8], limit: u32) -> CountRead
-    ensures { λ r. ⌜ countAs r ≡ counted 0 (readText limit (now (text .entry))) ⌝ }
+    ensures { λ r. ⌜ countAs r ≡ counting limit (now (text .entry)) ⌝ }
 {
     if 16384 < text.len() {
         return CountRead::Refused(Refusal {
-            number: 1,
+            number: forms::TOO_LONG,
             place: 0,
         });
     }
@@ -292,7 +295,7 @@ pub fn count_under(text: &[u8], limit: u32) -> CountRead
 
 // The number of statements of a text.
 pub fn count(text: &[u8]) -> CountRead
-    ensures { λ r. ⌜ countAs r ≡ counted 0 (readText 64 (now (text .entry))) ⌝ }
+    ensures { λ r. ⌜ countAs r ≡ counting 64 (now (text .entry)) ⌝ }
 {
     count_under(text, 64)
 }
@@ -301,9 +304,9 @@ pub fn count(text: &[u8]) -> CountRead
 // on to the end, for a fault behind it refuses the text.
 fn nth(
     text: &[u8],
-    classes: &[u8; 256],
-    labels: &[u8; 608],
-    keys: &[u8; 240],
+    classes: &Classes,
+    labels: &Labels,
+    keys: &Keywords,
     index: usize,
     limit: u32,
 ) -> NthRead
@@ -344,11 +347,11 @@ fn nth(
 
 // The statement of a text at an index, or why it is refused: the faults of the whole text come before 20.
 pub fn statement_under(text: &[u8], index: usize, limit: u32) -> StatementAt
-    ensures { λ r. ⌜ statementAs (now (text .entry)) r ≡ nthOf index (readText limit (now (text .entry))) ⌝ }
+    ensures { λ r. ⌜ statementAs (now (text .entry)) r ≡ stating limit (now (text .entry)) index ⌝ }
 {
     if 16384 < text.len() {
         return StatementAt::Refused(Refusal {
-            number: 1,
+            number: forms::TOO_LONG,
             place: 0,
         });
     }
@@ -358,7 +361,7 @@ pub fn statement_under(text: &[u8], index: usize, limit: u32) -> StatementAt
     match nth(text, &classes, &labels, &keys, index, limit) {
         NthRead::Statement(form) => StatementAt::Statement(form),
         NthRead::Missing => StatementAt::Refused(Refusal {
-            number: 20,
+            number: forms::NO_STATEMENT,
             place: index,
         }),
         NthRead::Refused(r) => StatementAt::Refused(earliest(text, &classes, r)),
@@ -367,7 +370,7 @@ pub fn statement_under(text: &[u8], index: usize, limit: u32) -> StatementAt
 
 // The statement of a text at an index.
 pub fn statement_at(text: &[u8], index: usize) -> StatementAt
-    ensures { λ r. ⌜ statementAs (now (text .entry)) r ≡ nthOf index (readText 64 (now (text .entry))) ⌝ }
+    ensures { λ r. ⌜ statementAs (now (text .entry)) r ≡ stating 64 (now (text .entry)) index ⌝ }
 {
     statement_under(text, index, 64)
 }

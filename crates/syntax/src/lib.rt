@@ -17,6 +17,7 @@ use forms::Arg;
 use forms::Args;
 use forms::Name;
 use forms::Refusal;
+use tokens::Classes;
 use tokens::Cursor;
 
 // One argument with the cursor behind the `,` after it, or behind the `)` where it is the last; a `)` where it would start; or a refusal.
@@ -43,7 +44,7 @@ pub enum LetRead {
 }
 
 // One argument of a feature, and what stands behind it.
-fn one_arg(text: &[u8], classes: &[u8; 256], cur: Cursor, limit: u32) -> OneArg
+fn one_arg(text: &[u8], classes: &Classes, cur: Cursor, limit: u32) -> OneArg
     requires { ⌜ now classes ≡ classTable ⌝ }
     ensures { λ r. ⌜
         ((k : Name·spec) (m : Bool) (ys : List Arg·spec)
@@ -72,7 +73,7 @@ fn one_arg(text: &[u8], classes: &[u8; 256], cur: Cursor, limit: u32) -> OneArg
 
 // The arguments behind a feature's `(`: they stand apart until the `)`, so that none is copied for the next; past the fourth only their
 // number is kept.
-fn read_args(text: &[u8], classes: &[u8; 256], cur: Cursor, optional: bool, limit: u32) -> FeatureRead
+fn read_args(text: &[u8], classes: &Classes, cur: Cursor, optional: bool, limit: u32) -> FeatureRead
     requires { ⌜ now classes ≡ classTable ⌝ }
     ensures { λ r. ⌜
         ((k : Name·spec)
@@ -127,7 +128,7 @@ fn read_args(text: &[u8], classes: &[u8; 256], cur: Cursor, optional: bool, limi
                     };
                 }
                 return FeatureRead::Refused(Refusal {
-                    number: 3,
+                    number: forms::UNEXPECTED,
                     place: o,
                 });
             }
@@ -137,7 +138,7 @@ fn read_args(text: &[u8], classes: &[u8; 256], cur: Cursor, optional: bool, limi
 }
 
 // A feature's statement behind its keyword.
-pub fn read_feature(text: &[u8], classes: &[u8; 256], cur: Cursor, limit: u32) -> FeatureRead
+pub fn read_feature(text: &[u8], classes: &Classes, cur: Cursor, limit: u32) -> FeatureRead
     requires { ⌜ now classes ≡ classTable ⌝ }
     ensures { λ r. ⌜ ((k : Name·spec) → readIn limit (now (text .entry)) (keyword k) (cur .at) ≡ featureThen limit (now (text .entry)) k r) ⌝ }
     ensures { λ r. ⌜ FeatureFurther (now (text .entry)) (cur .at) r ⌝ }
@@ -159,7 +160,7 @@ pub fn read_feature(text: &[u8], classes: &[u8; 256], cur: Cursor, limit: u32) -
 }
 
 // The argument of a LET whose name is read, and its `)`.
-fn let_value(text: &[u8], classes: &[u8; 256], name: Name, cur: Cursor, limit: u32) -> LetRead
+fn let_value(text: &[u8], classes: &Classes, name: Name, cur: Cursor, limit: u32) -> LetRead
     requires { ⌜ (now classes ≡ classTable) × InText (now text) name ⌝ }
     ensures { λ r. ⌜
         readIn limit (now (text .entry)) (argument·state (letCall (nameIn (now (text .entry)) name))) (cur .at)
@@ -175,13 +176,13 @@ fn let_value(text: &[u8], classes: &[u8; 256], name: Name, cur: Cursor, limit: u
                 next: end,
             },
             After::Comma { at: o, next: _ } => LetRead::Refused(Refusal {
-                number: 3,
+                number: forms::UNEXPECTED,
                 place: o,
             }),
             After::Refused(r) => LetRead::Refused(r),
         },
         ArgRead::Close { at: o, next: _ } => LetRead::Refused(Refusal {
-            number: 3,
+            number: forms::UNEXPECTED,
             place: o,
         }),
         ArgRead::Refused(r) => LetRead::Refused(r),
@@ -189,14 +190,14 @@ fn let_value(text: &[u8], classes: &[u8; 256], name: Name, cur: Cursor, limit: u
 }
 
 // A LET behind its keyword and its `(`: its name, and a `,`.
-fn let_name(text: &[u8], classes: &[u8; 256], cur: Cursor, limit: u32) -> LetRead
+fn let_name(text: &[u8], classes: &Classes, cur: Cursor, limit: u32) -> LetRead
     requires { ⌜ now classes ≡ classTable ⌝ }
     ensures { λ r. ⌜ readIn limit (now (text .entry)) letOpen (cur .at) ≡ letThen limit (now (text .entry)) r ⌝ }
     ensures { λ r. ⌜ LetFurther (now (text .entry)) (cur .at) r ⌝ }
 {
     let token = cur.token(text, classes);
     let next = token.next;
-    if token.kind != 0 {
+    if token.kind != tokens::WORD {
         return LetRead::Refused(arguments::unexpected(token));
     }
     let comma = next.token(text, classes);
@@ -209,7 +210,7 @@ fn let_name(text: &[u8], classes: &[u8; 256], cur: Cursor, limit: u32) -> LetRea
 }
 
 // A LET behind its keyword.
-pub fn read_let(text: &[u8], classes: &[u8; 256], cur: Cursor, limit: u32) -> LetRead
+pub fn read_let(text: &[u8], classes: &Classes, cur: Cursor, limit: u32) -> LetRead
     requires { ⌜ now classes ≡ classTable ⌝ }
     ensures { λ r. ⌜ readIn limit (now (text .entry)) letKeyword (cur .at) ≡ letThen limit (now (text .entry)) r ⌝ }
     ensures { λ r. ⌜ LetFurther (now (text .entry)) (cur .at) r ⌝ }

@@ -16,7 +16,8 @@ use Rattle.reading_laws.specs.Raised.{raiseStatement}
 use Rattle.reading_laws.proofs.Joining.{reading-joins}
 use Rattle.statements.specs.Answers.{counted, chosen, nthOf}
 use Rattle.statements.proofs.Whole.{counted-accepted}
-use Rattle.values.specs.Calls.{counting, raised, Joined}
+use Rattle.values.specs.Calls.{raised, Joined}
+use Rattle.statements.specs.Answers.{counting}
 
 -- a text with so many statements
 how-many : (n : ℕ) (a : Answer (List Statement)) (ss : List Statement) → counted 0 a ≡ accepted n → a ≡ accepted ss → length ss ≡ n

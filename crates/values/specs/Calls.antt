@@ -1,21 +1,13 @@
--- What the calls answer, for every text and index: their contracts say that Count's answer means `counting text`, and Statement's
--- `stating text index`. The count limit is a parameter, 64 for both.
+-- Two texts joined: what Count and Statement answer of them.
 use Prim.Native.Nat.{ℕ, _+_, _<_}
 use mathlib.Core.List.{List, _∷_, _++_}
 use mathlib.Core.Path.{_≡_}
 use lib.ListN.{length}
 use Rattle.reading.specs.Statement.{Statement}
 use Rattle.reading.specs.Answer.{Answer, accepted}
-use Rattle.reading.specs.Read.{readText}
 use Rattle.reading_laws.specs.Moved.{moveAnswer}
 use Rattle.reading_laws.specs.Raised.{further, raiseStatement}
-use Rattle.statements.specs.Answers.{counted, nthOf}
-
-abbrev pub counting : ℕ → List ℕ → Answer ℕ
-counting limit text = counted 0 (readText limit text)
-
-abbrev pub stating : ℕ → List ℕ → ℕ → Answer Statement
-stating limit text index = nthOf index (readText limit text)
+use Rattle.statements.specs.Answers.{counting, stating}
 
 -- an answer with the places of its names and symbols so many bytes further on
 abbrev pub raised : ℕ → Answer Statement → Answer Statement

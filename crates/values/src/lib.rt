@@ -2,7 +2,7 @@
 ghost use mathlib.Core.Path.{_≡_};
 ghost use Rattle.tokens.specs.Class.{classTable};
 ghost use Rattle.forms.specs.Fits.{Listed};
-ghost use Rattle.values.specs.Calls.{stating};
+ghost use Rattle.statements.specs.Answers.{stating};
 ghost use Rattle.values.specs.Lists.{noItems, namesIn, countsIn, foundLists};
 ghost use Rattle.values.specs.Value.{valueAs, Usable, Filled};
 use forms::Counts;
@@ -11,6 +11,7 @@ use forms::Items;
 use forms::Operand;
 use parts::Part;
 use statements::StatementAt;
+use tokens::Classes;
 use tokens::Cursor;
 
 // A statement, or why there is none, and its lists beside it: the names of its first argument, the names or a LET's values of its second, and
@@ -106,7 +107,7 @@ fn found_lists(found: StatementAt) -> Lists
 }
 
 // What was found, with its lists beside it.
-fn value_of(text: &[u8], classes: &[u8; 256], found: StatementAt, lists: Lists) -> Value
+fn value_of(text: &[u8], classes: &Classes, found: StatementAt, lists: Lists) -> Value
     requires { ⌜ (now classes ≡ classTable) × Listed (now text) (lists .first) × Listed (now text) (lists .second) × Listed (now text) (lists .counts) ⌝ }
     ensures { λ r. ⌜ (r .found ≡ found) × Filled (now (text .entry)) lists r ⌝ }
 {

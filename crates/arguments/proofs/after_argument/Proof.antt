@@ -16,9 +16,6 @@ use Rattle.arguments.proofs.after_argument.Tie as tie
 here : (d : tie.After-token) → Known (now (d .before .before .args .text)) (d .before .before .args .cur .at) (d .token .result)
 here d = known _ _ (d .token .result) (d .token .ensures)
 
-token-requires : tie.Need-token-requires
-token-requires c κs = search needs
-
 returns : tie.Need-returns
 unfolding turn afterThen AfterFurther
 returns c =
@@ -30,9 +27,6 @@ unfolding turn afterThen AfterFurther
 returns-2 c =
     let r = known-mark (here (c .before .before .before .before .before)) 41 (c .if2 .taken) (lit≤ tt) in
     ((λ limit call a. read-token limit _ (argumentRead call a) _ _ _ r), (omega (arith, r .ahead, r .wide), r .within))
-
-unexpected-requires : tie.Need-unexpected-requires
-unexpected-requires c κs = search needs
 
 returns-3 : tie.Need-returns-3
 unfolding turn afterThen AfterFurther
@@ -47,4 +41,4 @@ returns-3 c =
 
 pub after-argument-spec : {M : Type 1} → statement M
 after-argument-spec =
-    tie.close (tie.spec token-requires returns returns-2 unexpected-requires returns-3)
+    tie.close (tie.spec (λ c κs. search needs) returns returns-2 (λ c κs. search needs) returns-3)

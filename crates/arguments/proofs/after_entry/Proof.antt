@@ -17,9 +17,6 @@ use Rattle.arguments.proofs.after_entry.Tie as tie
 here : (d : tie.After-token) → Known (now (d .before .before .args .text)) (d .before .before .args .cur .at) (d .token .result)
 here d = known _ _ (d .token .result) (d .token .ensures)
 
-token-requires : tie.Need-token-requires
-token-requires c κs = search needs
-
 returns : tie.Need-returns
 unfolding turn entryThen EntryFurther
 returns c =
@@ -36,9 +33,6 @@ returns-2 c =
       (omega (arith, r .ahead, r .wide), r .within),
     )
 
-unexpected-requires : tie.Need-unexpected-requires
-unexpected-requires c κs = search needs
-
 returns-3 : tie.Need-returns-3
 unfolding turn entryThen EntryFurther
 returns-3 c =
@@ -52,4 +46,4 @@ returns-3 c =
 
 pub after-entry-spec : {M : Type 1} → statement M
 after-entry-spec =
-    tie.close (tie.spec token-requires returns returns-2 unexpected-requires returns-3)
+    tie.close (tie.spec (λ c κs. search needs) returns returns-2 (λ c κs. search needs) returns-3)

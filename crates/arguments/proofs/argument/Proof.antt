@@ -23,9 +23,6 @@ use Rattle.arguments.proofs.argument.Tie as tie
 here : (d : tie.After-token) → Known (now (d .before .before .args .text)) (d .before .before .args .cur .at) (d .token .result)
 here d = known _ _ (d .token .result) (d .token .ensures)
 
-token-requires : tie.Need-token-requires
-token-requires c κs = search needs
-
 named-requires : tie.Need-named-requires
 named-requires c κs = let r = known-word (here (c .before .before)) (c .match .keys1) in omega (arith, r .wide)
 
@@ -37,15 +34,6 @@ number-requires c κs =
     let d = c .before .before .before in
     let r = known-number (here d) (c .before .match .keys2) in
     (d .before .before .pre, number-stands _ (d .token .result) (c .named2 .ensures) r, r .within)
-
-symbol-requires : tie.Need-symbol-requires
-symbol-requires c κs = search needs
-
-array-requires : tie.Need-array-requires
-array-requires c κs = search needs
-
-unexpected-requires : tie.Need-unexpected-requires
-unexpected-requires c κs = search needs
 
 returns : tie.Need-returns
 unfolding turn argThen ArgFurther argIn Fits
@@ -141,13 +129,13 @@ pub argument-spec : {M : Type 1} → statement M
 argument-spec =
     tie.close
     (tie.spec
-    token-requires
+    (λ c κs. search needs)
     named-requires
     named-requires-2
     number-requires
-    symbol-requires
-    array-requires
-    unexpected-requires
+    (λ c κs. search needs)
+    (λ c κs. search needs)
+    (λ c κs. search needs)
     returns
     returns-2
     returns-3

@@ -90,9 +90,6 @@ loop-holds c =
 read-entry-requires : tie.Need-read-entry-requires Inv-loop μ-loop
 read-entry-requires c κs = c .before .before .before .before .before .before .pre
 
-enum-known-c : tie.Need-enum-known-c Inv-loop μ-loop
-enum-known-c c = search needs
-
 add-n : tie.Need-add-n Inv-loop μ-loop
 unfolding EntryFurther
 add-n c =
@@ -146,9 +143,6 @@ loop-again c =
           ∙ ap (λ (items : List Item). readIn limit s (item call p items) (x .0 .0 .at)) (all s p o n cur g (d .read-entry .result) (d .read-entry .ensures .0) (e .0));
     }
 
-enum-known-c-2 : tie.Need-enum-known-c-2 Inv-loop μ-loop
-enum-known-c-2 c = search needs
-
 add-count : tie.Need-add-count Inv-loop μ-loop
 unfolding EntryFurther
 add-count c =
@@ -185,9 +179,6 @@ returns-2 c =
       (omega (arith, f .0, g .past), f .1, whole),
     )
 
-enum-known-r : tie.Need-enum-known-r Inv-loop μ-loop
-enum-known-r c = search needs
-
 returns-3 : tie.Need-returns-3 Inv-loop μ-loop
 unfolding entryThen argThen ArgFurther
 returns-3 c =
@@ -210,12 +201,12 @@ array-spec =
     returns
     loop-holds
     read-entry-requires
-    enum-known-c
+    (λ c. search needs)
     add-n
     loop-less
     loop-again
-    enum-known-c-2
+    (λ c. search needs)
     add-count
     returns-2
-    enum-known-r
+    (λ c. search needs)
     returns-3)

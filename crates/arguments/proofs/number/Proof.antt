@@ -27,9 +27,6 @@ beyond :
     → Known (now (d .before .before .before .before .before .before .args .text)) (d .before .before .before .before .token .result .next .at) (d .token2 .result)
 beyond d = known _ _ (d .token2 .result) (d .token2 .ensures)
 
-token-requires : tie.Need-token-requires
-token-requires c κs = search needs
-
 returns : tie.Need-returns
 unfolding argThen ArgFurther argIn Fits
 returns c =
@@ -37,12 +34,6 @@ returns c =
     let a = d .before .before .args in
     let p = d .before .before .pre in
     ((λ call. no-range (a .limit) _ call (nameIn (now (a .text)) (a .name)) _ (d .token .result) (here d) (c .if1 .taken)), (omega arith, p .2, p .1))
-
-token-requires-2 : tie.Need-token-requires-2
-token-requires-2 c κs = search needs
-
-unexpected-requires : tie.Need-unexpected-requires
-unexpected-requires c κs = search needs
 
 returns-2 : tie.Need-returns-2
 unfolding turn argThen ArgFurther
@@ -91,10 +82,10 @@ pub number-spec : {M : Type 1} → statement M
 number-spec =
     tie.close
     (tie.spec
-    token-requires
+    (λ c κs. search needs)
     returns
-    token-requires-2
-    unexpected-requires
+    (λ c κs. search needs)
+    (λ c κs. search needs)
     returns-2
     named-requires
     range-of-requires

@@ -23,12 +23,6 @@ here d = known _ _ (d .token .result) (d .token .ensures)
 stands : (d : tie.Else1) → EntryAt (now (d .before .before .before .before .before .args .text)) (d .before .before .before .before .before .args .cur .at) (d .before .before .before .token .result)
 stands d = entry-at (here (d .before .before .before)) (d .if1 .left)
 
-token-requires : tie.Need-token-requires
-token-requires c κs = search needs
-
-unexpected-requires : tie.Need-unexpected-requires
-unexpected-requires c κs = search needs
-
 returns : tie.Need-returns
 unfolding turn entryThen EntryFurther EntryListed
 returns c =
@@ -43,9 +37,6 @@ returns c =
 returns-2 : tie.Need-returns-2
 unfolding entryThen EntryFurther EntryListed
 returns-2 c = ((λ limit call p items l. one-too-many (stands (c .before)) limit call p items (omega (arith, l, c .if2 .taken))), (tt, tt))
-
-after-entry-requires : tie.Need-after-entry-requires
-after-entry-requires c κs = search needs
 
 returns-3 : tie.Need-returns-3
 returns-3 c =
@@ -66,4 +57,4 @@ returns-3 c =
 pub read-entry-spec : {M : Type 1} → statement M
 read-entry-spec =
     tie.close
-    (tie.spec token-requires unexpected-requires returns returns-2 after-entry-requires returns-3)
+    (tie.spec (λ c κs. search needs) (λ c κs. search needs) returns returns-2 (λ c κs. search needs) returns-3)

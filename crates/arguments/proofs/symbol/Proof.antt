@@ -19,12 +19,6 @@ use Rattle.arguments.proofs.symbol.Tie as tie
 here : (d : tie.After-token) → Known (now (d .before .before .args .text)) (d .before .before .args .cur .at) (d .token .result)
 here d = known _ _ (d .token .result) (d .token .ensures)
 
-token-requires : tie.Need-token-requires
-token-requires c κs = search needs
-
-unexpected-requires : tie.Need-unexpected-requires
-unexpected-requires c κs = search needs
-
 returns : tie.Need-returns
 unfolding turn argThen ArgFurther
 returns c =
@@ -55,4 +49,4 @@ returns-2 c =
 
 pub symbol-spec : {M : Type 1} → statement M
 symbol-spec =
-    tie.close (tie.spec token-requires unexpected-requires returns named-requires returns-2)
+    tie.close (tie.spec (λ c κs. search needs) (λ c κs. search needs) returns named-requires returns-2)

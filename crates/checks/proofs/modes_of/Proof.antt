@@ -37,7 +37,7 @@ returns-3 c = c .lone-mode .ensures ∙ rw (c .before .before .arg .given .1)
 
 returns-4 : tie.Need-returns-4
 unfolding argIn Fits
-returns-4 c = 
+returns-4 c =
     let d = c .before .before .before .before in
     let a = d .before .before .before .args in
     let e = d .arg2 .given in

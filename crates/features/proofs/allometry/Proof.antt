@@ -8,40 +8,13 @@ use borrow.Author.Needs.{needs}
 use Rattle.features.proofs.allometry.Statement.{statement}
 use Rattle.features.proofs.allometry.Tie as tie
 
-wrong-number-requires : tie.Need-wrong-number-requires
-wrong-number-requires c κs = search needs
-
 returns : tie.Need-returns
 unfolding builtAs featureOf
 returns c = λ s limit k e. rw (c .wrong-number .ensures, oneOrTwo-none (c .before .before .before .args .args) (c .before .if1 .taken), e)
 
-wrong-number-requires-2 : tie.Need-wrong-number-requires-2
-wrong-number-requires-2 c κs = search needs
-
 returns-2 : tie.Need-returns-2
 unfolding builtAs featureOf
 returns-2 c = λ s limit k e. rw (c .wrong-number2 .ensures, oneOrTwo-more (c .before .before .before .before .before .args .args) (c .before .if2 .taken), e)
-
-word-of-requires : tie.Need-word-of-requires
-word-of-requires c κs = search needs
-
-enum-known-covariate : tie.Need-enum-known-covariate
-enum-known-covariate c = search needs
-
-reference-requires : tie.Need-reference-requires
-reference-requires c κs = search needs
-
-enum-known-reference : tie.Need-enum-known-reference
-enum-known-reference c = search needs
-
-mandatory-requires : tie.Need-mandatory-requires
-mandatory-requires c κs = search needs
-
-enum-known-r : tie.Need-enum-known-r
-enum-known-r c = search needs
-
-enum-known-r-2 : tie.Need-enum-known-r-2
-enum-known-r-2 c = search needs
 
 returns-3 : tie.Need-returns-3
 unfolding featureOf featureIn nameAs someNameAs
@@ -84,17 +57,17 @@ pub allometry-spec : {M : Type 1} → statement M
 allometry-spec =
     tie.close
     (tie.spec
-    wrong-number-requires
+    (λ c κs. search needs)
     returns
-    wrong-number-requires-2
+    (λ c κs. search needs)
     returns-2
-    word-of-requires
-    enum-known-covariate
-    reference-requires
-    enum-known-reference
-    mandatory-requires
-    enum-known-r
-    enum-known-r-2
+    (λ c κs. search needs)
+    (λ c. search needs)
+    (λ c κs. search needs)
+    (λ c. search needs)
+    (λ c κs. search needs)
+    (λ c. search needs)
+    (λ c. search needs)
     returns-3
     returns-4
     returns-5)

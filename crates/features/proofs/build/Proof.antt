@@ -10,30 +10,6 @@ use borrow.Author.Needs.{needs}
 use Rattle.features.proofs.build.Statement.{statement}
 use Rattle.features.proofs.build.Tie as tie
 
-add-end : tie.Need-add-end
-add-end c = search needs
-
-sub-find-keyword : tie.Need-sub-find-keyword
-sub-find-keyword c = search needs
-
-part-find-keyword-start : tie.Need-part-find-keyword-start
-part-find-keyword-start c = search needs
-
-part-find-keyword-end : tie.Need-part-find-keyword-end
-part-find-keyword-end c = search needs
-
-find-keyword-requires : tie.Need-find-keyword-requires
-find-keyword-requires c κs = search needs
-
-enum-known-place : tie.Need-enum-known-place
-enum-known-place c = search needs
-
-build-known-requires : tie.Need-build-known-requires
-build-known-requires c κs = search needs
-
-enum-told : tie.Need-enum-told
-enum-told c = search needs
-
 returns : tie.Need-returns
 unfolding buildFeature
 returns c = let d = c .before .before .before .before in
@@ -54,13 +30,13 @@ pub build-spec : {M : Type 1} → statement M
 build-spec =
     tie.close
     (tie.spec
-    add-end
-    sub-find-keyword
-    part-find-keyword-start
-    part-find-keyword-end
-    find-keyword-requires
-    enum-known-place
-    build-known-requires
-    enum-told
+    (λ c. search needs)
+    (λ c. search needs)
+    (λ c. search needs)
+    (λ c. search needs)
+    (λ c κs. search needs)
+    (λ c. search needs)
+    (λ c κs. search needs)
+    (λ c. search needs)
     returns
     returns-2)

@@ -6,27 +6,6 @@ use borrow.Author.Needs.{needs}
 use Rattle.features.proofs.build_early.Statement.{statement}
 use Rattle.features.proofs.build_early.Tie as tie
 
-modes-alone-requires : tie.Need-modes-alone-requires
-modes-alone-requires c κs = search needs
-
-modes-alone-requires-2 : tie.Need-modes-alone-requires-2
-modes-alone-requires-2 c κs = search needs
-
-peripherals-requires : tie.Need-peripherals-requires
-peripherals-requires c κs = search needs
-
-transits-requires : tie.Need-transits-requires
-transits-requires c κs = search needs
-
-modes-alone-requires-3 : tie.Need-modes-alone-requires-3
-modes-alone-requires-3 c κs = search needs
-
-covariate-requires : tie.Need-covariate-requires
-covariate-requires c κs = search needs
-
-allometry-requires : tie.Need-allometry-requires
-allometry-requires c κs = search needs
-
 returns : tie.Need-returns
 unfolding featureOf
 returns c = λ k e. rw (c .before .match .keys1) (c .modes-alone .ensures k e)
@@ -59,13 +38,13 @@ pub build-early-spec : {M : Type 1} → statement M
 build-early-spec =
     tie.close
     (tie.spec
-    modes-alone-requires
-    modes-alone-requires-2
-    peripherals-requires
-    transits-requires
-    modes-alone-requires-3
-    covariate-requires
-    allometry-requires
+    (λ c κs. search needs)
+    (λ c κs. search needs)
+    (λ c κs. search needs)
+    (λ c κs. search needs)
+    (λ c κs. search needs)
+    (λ c κs. search needs)
+    (λ c κs. search needs)
     returns
     returns-2
     returns-3

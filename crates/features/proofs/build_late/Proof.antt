@@ -6,27 +6,6 @@ use borrow.Author.Needs.{needs}
 use Rattle.features.proofs.build_late.Statement.{statement}
 use Rattle.features.proofs.build_late.Tie as tie
 
-modes-alone-requires : tie.Need-modes-alone-requires
-modes-alone-requires c κs = search needs
-
-modes-alone-requires-2 : tie.Need-modes-alone-requires-2
-modes-alone-requires-2 c κs = search needs
-
-indirect-effect-requires : tie.Need-indirect-effect-requires
-indirect-effect-requires c κs = search needs
-
-modes-alone-requires-3 : tie.Need-modes-alone-requires-3
-modes-alone-requires-3 c κs = search needs
-
-iiv-requires : tie.Need-iiv-requires
-iiv-requires c κs = search needs
-
-iov-requires : tie.Need-iov-requires
-iov-requires c κs = search needs
-
-covariance-requires : tie.Need-covariance-requires
-covariance-requires c κs = search needs
-
 returns : tie.Need-returns
 unfolding featureOf
 returns c = λ k e. rw (c .before .match .keys1) (c .modes-alone .ensures k e)
@@ -62,13 +41,13 @@ pub build-late-spec : {M : Type 1} → statement M
 build-late-spec =
     tie.close
     (tie.spec
-    modes-alone-requires
-    modes-alone-requires-2
-    indirect-effect-requires
-    modes-alone-requires-3
-    iiv-requires
-    iov-requires
-    covariance-requires
+    (λ c κs. search needs)
+    (λ c κs. search needs)
+    (λ c κs. search needs)
+    (λ c κs. search needs)
+    (λ c κs. search needs)
+    (λ c κs. search needs)
+    (λ c κs. search needs)
     returns
     returns-2
     returns-3

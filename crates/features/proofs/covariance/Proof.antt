@@ -9,30 +9,9 @@ use borrow.Author.Needs.{needs}
 use Rattle.features.proofs.covariance.Statement.{statement}
 use Rattle.features.proofs.covariance.Tie as tie
 
-wrong-number-requires : tie.Need-wrong-number-requires
-wrong-number-requires c κs = search needs
-
 returns : tie.Need-returns
 unfolding builtAs featureOf
 returns c = λ limit k e. rw (c .wrong-number .ensures, two-not (c .before .before .before .before .args .args) (c .before .if1 .taken), e)
-
-modes-of-requires : tie.Need-modes-of-requires
-modes-of-requires c κs = search needs
-
-enum-known-level : tie.Need-enum-known-level
-enum-known-level c = search needs
-
-operand-of-requires : tie.Need-operand-of-requires
-operand-of-requires c κs = search needs
-
-enum-known-parameters : tie.Need-enum-known-parameters
-enum-known-parameters c = search needs
-
-enum-known-r : tie.Need-enum-known-r
-enum-known-r c = search needs
-
-enum-known-r-2 : tie.Need-enum-known-r-2
-enum-known-r-2 c = search needs
 
 returns-2 : tie.Need-returns-2
 unfolding builtAs featureOf featureIn modesAs operandAs
@@ -72,14 +51,14 @@ pub covariance-spec : {M : Type 1} → statement M
 covariance-spec =
     tie.close
     (tie.spec
-    wrong-number-requires
+    (λ c κs. search needs)
     returns
-    modes-of-requires
-    enum-known-level
-    operand-of-requires
-    enum-known-parameters
-    enum-known-r
-    enum-known-r-2
+    (λ c κs. search needs)
+    (λ c. search needs)
+    (λ c κs. search needs)
+    (λ c. search needs)
+    (λ c. search needs)
+    (λ c. search needs)
     returns-2
     returns-3
     returns-4)

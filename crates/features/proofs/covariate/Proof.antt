@@ -9,40 +9,13 @@ use borrow.Author.Needs.{needs}
 use Rattle.features.proofs.covariate.Statement.{statement}
 use Rattle.features.proofs.covariate.Tie as tie
 
-wrong-number-requires : tie.Need-wrong-number-requires
-wrong-number-requires c κs = search needs
-
 returns : tie.Need-returns
 unfolding builtAs featureOf
 returns c = λ limit k e. rw (c .wrong-number .ensures, threeOrFour-less (c .before .before .before .before .args .args) (c .before .if1 .taken), e)
 
-wrong-number-requires-2 : tie.Need-wrong-number-requires-2
-wrong-number-requires-2 c κs = search needs
-
 returns-2 : tie.Need-returns-2
 unfolding builtAs featureOf
 returns-2 c = λ limit k e. rw (c .wrong-number2 .ensures, threeOrFour-more (c .before .before .before .before .before .before .args .args) (c .before .if2 .taken), e)
-
-operand-of-requires : tie.Need-operand-of-requires
-operand-of-requires c κs = search needs
-
-enum-known-parameters : tie.Need-enum-known-parameters
-enum-known-parameters c = search needs
-
-operand-of-requires-2 : tie.Need-operand-of-requires-2
-operand-of-requires-2 c κs = search needs
-
-enum-known-covariates : tie.Need-enum-known-covariates
-enum-known-covariates c = search needs
-
-covariate-with-requires : tie.Need-covariate-with-requires
-covariate-with-requires c κs = search needs
-
-enum-known-r : tie.Need-enum-known-r
-enum-known-r c = search needs
-
-enum-known-r-2 : tie.Need-enum-known-r-2
-enum-known-r-2 c = search needs
 
 returns-3 : tie.Need-returns-3
 unfolding operandAs
@@ -88,17 +61,17 @@ pub covariate-spec : {M : Type 1} → statement M
 covariate-spec =
     tie.close
     (tie.spec
-    wrong-number-requires
+    (λ c κs. search needs)
     returns
-    wrong-number-requires-2
+    (λ c κs. search needs)
     returns-2
-    operand-of-requires
-    enum-known-parameters
-    operand-of-requires-2
-    enum-known-covariates
-    covariate-with-requires
-    enum-known-r
-    enum-known-r-2
+    (λ c κs. search needs)
+    (λ c. search needs)
+    (λ c κs. search needs)
+    (λ c. search needs)
+    (λ c κs. search needs)
+    (λ c. search needs)
+    (λ c. search needs)
     returns-3
     returns-4
     returns-5)

@@ -7,24 +7,6 @@ use borrow.Author.Needs.{needs}
 use Rattle.features.proofs.covariate_with.Statement.{statement}
 use Rattle.features.proofs.covariate_with.Tie as tie
 
-effects-of-requires : tie.Need-effects-of-requires
-effects-of-requires c κs = search needs
-
-enum-known-effects : tie.Need-enum-known-effects
-enum-known-effects c = search needs
-
-operator-requires : tie.Need-operator-requires
-operator-requires c κs = search needs
-
-enum-known-op : tie.Need-enum-known-op
-enum-known-op c = search needs
-
-enum-known-r : tie.Need-enum-known-r
-enum-known-r c = search needs
-
-enum-known-r-2 : tie.Need-enum-known-r-2
-enum-known-r-2 c = search needs
-
 returns : tie.Need-returns
 unfolding builtAs featureIn modesAs opReadAs
 returns c = let o = c .before .before .before in
@@ -55,12 +37,12 @@ pub covariate-with-spec : {M : Type 1} → statement M
 covariate-with-spec =
     tie.close
     (tie.spec
-    effects-of-requires
-    enum-known-effects
-    operator-requires
-    enum-known-op
-    enum-known-r
-    enum-known-r-2
+    (λ c κs. search needs)
+    (λ c. search needs)
+    (λ c κs. search needs)
+    (λ c. search needs)
+    (λ c. search needs)
+    (λ c. search needs)
     returns
     returns-2
     returns-3)

@@ -5,18 +5,6 @@ use borrow.Author.Needs.{needs}
 use Rattle.features.proofs.effects_of.Statement.{statement}
 use Rattle.features.proofs.effects_of.Tie as tie
 
-modes-of-requires : tie.Need-modes-of-requires
-modes-of-requires c κs = search needs
-
-enum-known-modes : tie.Need-enum-known-modes
-enum-known-modes c = search needs
-
-explicit-requires : tie.Need-explicit-requires
-explicit-requires c κs = search needs
-
-enum-known-r : tie.Need-enum-known-r
-enum-known-r c = search needs
-
 returns : tie.Need-returns
 unfolding modesAs
 returns c = let d = c .before .before .before .before in
@@ -29,4 +17,4 @@ returns-2 c = rw (← (c .before .before .before .modes-of .ensures), c .before 
 pub effects-of-spec : {M : Type 1} → statement M
 effects-of-spec =
     tie.close
-    (tie.spec modes-of-requires enum-known-modes explicit-requires enum-known-r returns returns-2)
+    (tie.spec (λ c κs. search needs) (λ c. search needs) (λ c κs. search needs) (λ c. search needs) returns returns-2)

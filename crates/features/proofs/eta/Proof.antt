@@ -7,30 +7,9 @@ use borrow.Author.Needs.{needs}
 use Rattle.features.proofs.eta.Statement.{statement}
 use Rattle.features.proofs.eta.Tie as tie
 
-wrong-number-requires : tie.Need-wrong-number-requires
-wrong-number-requires c κs = search needs
-
 returns : tie.Need-returns
 unfolding etaAs
 returns c = λ k e. rw (c .wrong-number .ensures, two-not (c .before .before .before .before .args .args) (c .before .if1 .taken), e)
-
-operand-of-requires : tie.Need-operand-of-requires
-operand-of-requires c κs = search needs
-
-enum-known-parameters : tie.Need-enum-known-parameters
-enum-known-parameters c = search needs
-
-modes-of-requires : tie.Need-modes-of-requires
-modes-of-requires c κs = search needs
-
-enum-known-effects : tie.Need-enum-known-effects
-enum-known-effects c = search needs
-
-enum-known-r : tie.Need-enum-known-r
-enum-known-r c = search needs
-
-enum-known-r-2 : tie.Need-enum-known-r-2
-enum-known-r-2 c = search needs
 
 returns-2 : tie.Need-returns-2
 unfolding etaAs modesAs operandAs
@@ -75,14 +54,14 @@ pub eta-spec : {M : Type 1} → statement M
 eta-spec =
     tie.close
     (tie.spec
-    wrong-number-requires
+    (λ c κs. search needs)
     returns
-    operand-of-requires
-    enum-known-parameters
-    modes-of-requires
-    enum-known-effects
-    enum-known-r
-    enum-known-r-2
+    (λ c κs. search needs)
+    (λ c. search needs)
+    (λ c κs. search needs)
+    (λ c. search needs)
+    (λ c. search needs)
+    (λ c. search needs)
     returns-2
     returns-3
     returns-4)

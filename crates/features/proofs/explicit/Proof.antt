@@ -10,15 +10,6 @@ returns : tie.Need-returns
 unfolding modesAs explicit
 returns c = λ s. rw (c .if1 .taken)
 
-enum-told : tie.Need-enum-told
-enum-told c = search needs
-
-place-of-requires : tie.Need-place-of-requires
-place-of-requires c κs = search needs
-
-enum-known-modes : tie.Need-enum-known-modes
-enum-known-modes c = search needs
-
 returns-2 : tie.Need-returns-2
 unfolding modesAs modesIn explicit
 returns-2 c = λ s. rw (c .before .enum-told .given .1, c .before .before .before .if1 .left, c .place-of .ensures s)
@@ -29,4 +20,4 @@ returns-3 c = λ s. rw (c .before .modes .given .1, c .before .before .before .i
 
 pub explicit-spec : {M : Type 1} → statement M
 explicit-spec =
-    tie.close (tie.spec returns enum-told place-of-requires enum-known-modes returns-2 returns-3)
+    tie.close (tie.spec returns (λ c. search needs) (λ c κs. search needs) (λ c. search needs) returns-2 returns-3)

@@ -9,33 +9,9 @@ use borrow.Author.Needs.{needs}
 use Rattle.features.proofs.indirect_effect.Statement.{statement}
 use Rattle.features.proofs.indirect_effect.Tie as tie
 
-wrong-number-requires : tie.Need-wrong-number-requires
-wrong-number-requires c κs = search needs
-
 returns : tie.Need-returns
 unfolding builtAs featureOf
 returns c = λ limit k e. rw (c .wrong-number .ensures, two-not (c .before .before .before .before .args .args) (c .before .if1 .taken), e)
-
-modes-of-requires : tie.Need-modes-of-requires
-modes-of-requires c κs = search needs
-
-enum-known-mode : tie.Need-enum-known-mode
-enum-known-mode c = search needs
-
-modes-of-requires-2 : tie.Need-modes-of-requires-2
-modes-of-requires-2 c κs = search needs
-
-enum-known-production : tie.Need-enum-known-production
-enum-known-production c = search needs
-
-mandatory-requires : tie.Need-mandatory-requires
-mandatory-requires c κs = search needs
-
-enum-known-r : tie.Need-enum-known-r
-enum-known-r c = search needs
-
-enum-known-r-2 : tie.Need-enum-known-r-2
-enum-known-r-2 c = search needs
 
 returns-2 : tie.Need-returns-2
 unfolding featureOf featureIn modesAs
@@ -75,15 +51,15 @@ pub indirect-effect-spec : {M : Type 1} → statement M
 indirect-effect-spec =
     tie.close
     (tie.spec
-    wrong-number-requires
+    (λ c κs. search needs)
     returns
-    modes-of-requires
-    enum-known-mode
-    modes-of-requires-2
-    enum-known-production
-    mandatory-requires
-    enum-known-r
-    enum-known-r-2
+    (λ c κs. search needs)
+    (λ c. search needs)
+    (λ c κs. search needs)
+    (λ c. search needs)
+    (λ c κs. search needs)
+    (λ c. search needs)
+    (λ c. search needs)
     returns-2
     returns-3
     returns-4)

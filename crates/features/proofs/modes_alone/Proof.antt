@@ -7,30 +7,9 @@ use borrow.Author.Needs.{needs}
 use Rattle.features.proofs.modes_alone.Statement.{statement}
 use Rattle.features.proofs.modes_alone.Tie as tie
 
-wrong-number-requires : tie.Need-wrong-number-requires
-wrong-number-requires c κs = search needs
-
 returns : tie.Need-returns
 unfolding builtAs
 returns c = λ k e. rw (c .wrong-number .ensures, one-not (c .before .before .before .before .args .args) (c .before .if1 .taken), e)
-
-family-of-requires : tie.Need-family-of-requires
-family-of-requires c κs = search needs
-
-modes-of-requires : tie.Need-modes-of-requires
-modes-of-requires c κs = search needs
-
-enum-known-modes : tie.Need-enum-known-modes
-enum-known-modes c = search needs
-
-feature-with-requires : tie.Need-feature-with-requires
-feature-with-requires c κs = search needs
-
-mandatory-requires : tie.Need-mandatory-requires
-mandatory-requires c κs = search needs
-
-enum-known-r : tie.Need-enum-known-r
-enum-known-r c = search needs
 
 returns-2 : tie.Need-returns-2
 unfolding modesAs
@@ -54,13 +33,13 @@ pub modes-alone-spec : {M : Type 1} → statement M
 modes-alone-spec =
     tie.close
     (tie.spec
-    wrong-number-requires
+    (λ c κs. search needs)
     returns
-    family-of-requires
-    modes-of-requires
-    enum-known-modes
-    feature-with-requires
-    mandatory-requires
-    enum-known-r
+    (λ c κs. search needs)
+    (λ c κs. search needs)
+    (λ c. search needs)
+    (λ c κs. search needs)
+    (λ c κs. search needs)
+    (λ c. search needs)
     returns-2
     returns-3)

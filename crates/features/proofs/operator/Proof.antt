@@ -10,11 +10,8 @@ returns : tie.Need-returns
 unfolding opReadAs operatorOf
 returns c = λ s. rw (fourth-none (c .before .before .args .args) (c .if1 .taken))
 
-op-of-requires : tie.Need-op-of-requires
-op-of-requires c κs = search needs
-
 returns-2 : tie.Need-returns-2
 returns-2 c = λ s. rw (fourth-some (c .before .before .before .args .args) (c .before .if1 .left)) (c .op-of .ensures s)
 
 pub operator-spec : {M : Type 1} → statement M
-operator-spec = tie.close (tie.spec returns op-of-requires returns-2)
+operator-spec = tie.close (tie.spec returns (λ c κs. search needs) returns-2)

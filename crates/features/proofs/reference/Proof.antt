@@ -11,15 +11,6 @@ returns : tie.Need-returns
 unfolding someNameAs someNameIn
 returns c = λ s. rw (second-none (c .before .before .args .args) (c .if1 .taken))
 
-number-of-requires : tie.Need-number-of-requires
-number-of-requires c κs = search needs
-
-enum-known-name : tie.Need-enum-known-name
-enum-known-name c = search needs
-
-enum-known-r : tie.Need-enum-known-r
-enum-known-r c = search needs
-
 returns-2 : tie.Need-returns-2
 unfolding someNameAs someNameIn nameAs
 returns-2 c = λ s.
@@ -35,4 +26,4 @@ returns-3 c = λ s.
 pub reference-spec : {M : Type 1} → statement M
 reference-spec =
     tie.close
-    (tie.spec returns number-of-requires enum-known-name enum-known-r returns-2 returns-3)
+    (tie.spec returns (λ c κs. search needs) (λ c. search needs) (λ c. search needs) returns-2 returns-3)

@@ -11,15 +11,6 @@ returns : tie.Need-returns
 unfolding someModesAs someModesIn
 returns c = rw (second-none (c .before .before .before .args .args) (c .if1 .taken))
 
-modes-of-requires : tie.Need-modes-of-requires
-modes-of-requires c κs = search needs
-
-enum-known-modes : tie.Need-enum-known-modes
-enum-known-modes c = search needs
-
-enum-known-r : tie.Need-enum-known-r
-enum-known-r c = search needs
-
 returns-2 : tie.Need-returns-2
 unfolding someModesAs someModesIn modesAs
 returns-2 c = let d = c .before .before .before in
@@ -33,4 +24,4 @@ returns-3 c = let d = c .before .before .before in
 pub second-modes-spec : {M : Type 1} → statement M
 second-modes-spec =
     tie.close
-    (tie.spec returns modes-of-requires enum-known-modes enum-known-r returns-2 returns-3)
+    (tie.spec returns (λ c κs. search needs) (λ c. search needs) (λ c. search needs) returns-2 returns-3)

@@ -9,31 +9,16 @@ use borrow.Author.Needs.{needs}
 use Rattle.features.proofs.transits_of.Statement.{statement}
 use Rattle.features.proofs.transits_of.Tie as tie
 
-is-n-requires : tie.Need-is-n-requires
-is-n-requires c κs = search needs
-
 returns : tie.Need-returns
 unfolding transitsOf transitsAs transitsIn
 returns c = let d = c .before .before .before in
     rw (← (d .is-n .ensures), c .before .before .if1 .taken, second-none (d .before .before .args .args) (c .if2 .taken))
-
-place-of-requires : tie.Need-place-of-requires
-place-of-requires c κs = search needs
 
 returns-2 : tie.Need-returns-2
 unfolding transitsOf transitsAs
 returns-2 c = let d = c .before .before .before .before in
     let a = d .before .before .args in
     rw (← (d .is-n .ensures), c .before .before .before .if1 .taken, second-some (a .args) (c .before .if2 .left), c .place-of .ensures (now (a .text)))
-
-counts-of-requires : tie.Need-counts-of-requires
-counts-of-requires c κs = search needs
-
-enum-known-counts : tie.Need-enum-known-counts
-enum-known-counts c = search needs
-
-enum-known-r : tie.Need-enum-known-r
-enum-known-r c = search needs
 
 returns-3 : tie.Need-returns-3
 unfolding transitsOf transitsAs transitsIn countsAs
@@ -49,12 +34,12 @@ pub transits-of-spec : {M : Type 1} → statement M
 transits-of-spec =
     tie.close
     (tie.spec
-    is-n-requires
+    (λ c κs. search needs)
     returns
-    place-of-requires
+    (λ c κs. search needs)
     returns-2
-    counts-of-requires
-    enum-known-counts
-    enum-known-r
+    (λ c κs. search needs)
+    (λ c. search needs)
+    (λ c. search needs)
     returns-3
     returns-4)

@@ -9,21 +9,6 @@ use borrow.Author.Needs.{needs}
 use Rattle.forms.proofs.count_at.Statement.{statement}
 use Rattle.forms.proofs.count_at.Tie as tie
 
-add-end : tie.Need-add-end
-add-end c = search needs
-
-sub-count-of : tie.Need-sub-count-of
-sub-count-of c = search needs
-
-part-count-of-start : tie.Need-part-count-of-start
-part-count-of-start c = search needs
-
-part-count-of-end : tie.Need-part-count-of-end
-part-count-of-end c = search needs
-
-count-of-requires : tie.Need-count-of-requires
-count-of-requires c κs = search needs
-
 returns : tie.Need-returns
 returns c =
     let a = c .before .before .before .before .args in
@@ -33,4 +18,4 @@ returns c =
 pub count-at-spec : {M : Type 1} → statement M
 count-at-spec =
     tie.close
-    (tie.spec add-end sub-count-of part-count-of-start part-count-of-end count-of-requires returns)
+    (tie.spec (λ c. search needs) (λ c. search needs) (λ c. search needs) (λ c. search needs) (λ c κs. search needs) returns)

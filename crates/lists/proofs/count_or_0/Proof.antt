@@ -4,15 +4,6 @@ use borrow.Author.Needs.{needs}
 use Rattle.lists.proofs.count_or_0.Statement.{statement}
 use Rattle.lists.proofs.count_or_0.Tie as tie
 
-count-at-requires : tie.Need-count-at-requires
-count-at-requires c κs = search needs
-
-enum-known-value : tie.Need-enum-known-value
-enum-known-value c = search needs
-
-enum-told : tie.Need-enum-told
-enum-told c = search needs
-
 returns : tie.Need-returns
 returns c = rw (sym (c .before .before .before .count-at .ensures) ∙ c .before .value .given .1)
 
@@ -21,4 +12,4 @@ returns-2 c = rw (sym (c .before .before .count-at .ensures) ∙ c .enum-told .g
 
 pub count-or-0-spec : {M : Type 1} → statement M
 count-or-0-spec =
-    tie.close (tie.spec count-at-requires enum-known-value enum-told returns returns-2)
+    tie.close (tie.spec (λ c κs. search needs) (λ c. search needs) (λ c. search needs) returns returns-2)

@@ -6,12 +6,6 @@ use Rattle.part_text.specs.Parts.{bareAs}
 use Rattle.part_text.proofs.is_bare.Statement.{statement}
 use Rattle.part_text.proofs.is_bare.Tie as tie
 
-enum-told : tie.Need-enum-told
-enum-told c = search needs
-
-enum-told-2 : tie.Need-enum-told-2
-enum-told-2 c = search needs
-
 returns : tie.Need-returns
 returns c = sym (ap (λ (e : Entry). bareAs e (c .before .before .args .count)) (c .enum-told .given .1))
 
@@ -19,4 +13,4 @@ returns-2 : tie.Need-returns-2
 returns-2 c = sym (ap (λ (e : Entry). bareAs e (c .before .before .args .count)) (c .enum-told2 .given .1))
 
 pub is-bare-spec : {M : Type 1} → statement M
-is-bare-spec = tie.close (tie.spec enum-told enum-told-2 returns returns-2)
+is-bare-spec = tie.close (tie.spec (λ c. search needs) (λ c. search needs) returns returns-2)

@@ -13,9 +13,6 @@ use Rattle.part_text.proofs.Bytes.{spell-bracketed}
 use Rattle.part_text.proofs.put_bracketed.Statement.{statement}
 use Rattle.part_text.proofs.put_bracketed.Tie as tie
 
-put-requires : tie.Need-put-requires
-put-requires c κs = search needs
-
 put-entries-requires : tie.Need-put-entries-requires
 put-entries-requires c κs =
     let p = c .before .before .before in
@@ -33,9 +30,6 @@ put-requires-2 c κs =
     room-left (room-same (a .args .at) (spell-bracketed xs) (a .pre .2))
     (further (further (going _ _ _) (p .put .ensures)) (q .put-entries .ensures))
 
-same-length : tie.Need-same-length
-same-length c = search needs
-
 returns : tie.Need-returns
 returns c =
     let q = c .before .before .before .before .before .before in
@@ -47,4 +41,4 @@ returns c =
 
 pub put-bracketed-spec : {M : Type 1} → statement M
 put-bracketed-spec =
-    tie.close (tie.spec put-requires put-entries-requires put-requires-2 same-length returns)
+    tie.close (tie.spec (λ c κs. search needs) put-entries-requires put-requires-2 (λ c. search needs) returns)

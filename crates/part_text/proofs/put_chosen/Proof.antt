@@ -36,17 +36,11 @@ is1 c = eqb-true _ 1 (sym (c .before .is-one .ensures) ∙ c .if1 .taken)
 not1 : (c : tie.Else1) → length (places (c .before .before .before .args .packed)) ≡ 1 → ⊥
 not1 c = eqb-false _ 1 (sym (c .before .is-one .ensures) ∙ c .if1 .left)
 
-is-one-requires : tie.Need-is-one-requires
-is-one-requires c κs = search needs
-
 put-labels-requires : tie.Need-put-labels-requires
 put-labels-requires c κs =
     let a = c .before .before .before .before in
     let e = one (a .args .family) (places (a .args .packed)) (is1 (c .before)) in
     (a .pre .0, room-same (a .args .at) e (a .pre .1))
-
-same-length : tie.Need-same-length
-same-length c = search needs
 
 returns : tie.Need-returns
 returns c =
@@ -81,9 +75,6 @@ put-requires-2 c κs =
     let e = more (a .args .family) (places (a .args .packed)) (not1 t) in
     room-left (room-same (a .args .at) e (a .pre .1)) (further (further (going _ _ _) (p .put .ensures)) (q .put-labels2 .ensures))
 
-same-length-2 : tie.Need-same-length-2
-same-length-2 c = search needs
-
 returns-2 : tie.Need-returns-2
 returns-2 c =
     let q = c .before .before .before .before .before .before in
@@ -97,12 +88,12 @@ pub put-chosen-spec : {M : Type 1} → statement M
 put-chosen-spec =
     tie.close
     (tie.spec
-    is-one-requires
+    (λ c κs. search needs)
     put-labels-requires
-    same-length
+    (λ c. search needs)
     returns
     put-requires
     put-labels-requires-2
     put-requires-2
-    same-length-2
+    (λ c. search needs)
     returns-2)

@@ -12,11 +12,8 @@ returns c = rw (behind-last _ (c .if1 .taken)) (nothing-written _ _)
 put-requires : tie.Need-put-requires
 put-requires c κs = rw (behind-more _ (c .before .if1 .left)) at (c .before .before .before .pre)
 
-same-length : tie.Need-same-length
-same-length c = search needs
-
 returns-2 : tie.Need-returns-2
 returns-2 c = rw (behind-more _ (c .before .before .before .before .if1 .left)) (c .before .before .put .ensures)
 
 pub put-comma-spec : {M : Type 1} → statement M
-put-comma-spec = tie.close (tie.spec returns put-requires same-length returns-2)
+put-comma-spec = tie.close (tie.spec returns put-requires (λ c. search needs) returns-2)

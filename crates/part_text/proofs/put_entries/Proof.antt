@@ -49,12 +49,6 @@ put-comma-requires c κs =
 past-comma-requires : tie.Need-past-comma-requires Inv-loop μ-loop
 past-comma-requires c κs = c .before .before .before .before .before .before .before .before .before .before .before .before .before .before .pre .0
 
-sub-left : tie.Need-sub-left Inv-loop μ-loop
-sub-left c = search needs
-
-loop-less : tie.Need-loop-less Inv-loop μ-loop
-loop-less c = search needs
-
 loop-again : tie.Need-loop-again Inv-loop μ-loop
 loop-again c =
     let q = c .before .before .before in
@@ -84,8 +78,8 @@ put-entries-spec =
     put-entry-requires
     put-comma-requires
     past-comma-requires
-    sub-left
-    loop-less
+    (λ c. search needs)
+    (λ c. search needs)
     loop-again
     same-length
     returns)

@@ -24,9 +24,6 @@ put-entries-requires c κs =
     let n = how-many (a .args .entry) s (a .args .items) (a .pre .1) in
     (a .pre .0, a .pre .1, room-same (a .args .at) (list-bare (a .args .entry) _ xs (sym (k .is-bare .ensures) ∙ t .if1 .taken) n) (a .pre .2))
 
-same-length : tie.Need-same-length
-same-length c = search needs
-
 returns : tie.Need-returns
 returns c =
     let t = c .before .before .before .before in
@@ -47,9 +44,6 @@ put-bracketed-requires c κs =
     let n = how-many (a .args .entry) s (a .args .items) (a .pre .1) in
     (a .pre .0, a .pre .1, room-same (a .args .at) (list-bracketed (a .args .entry) _ xs (sym (k .is-bare .ensures) ∙ t .if1 .left) n) (a .pre .2))
 
-same-length-2 : tie.Need-same-length-2
-same-length-2 c = search needs
-
 returns-2 : tie.Need-returns-2
 returns-2 c =
     let t = c .before .before .before .before in
@@ -66,8 +60,8 @@ put-list-spec =
     (tie.spec
     is-bare-requires
     put-entries-requires
-    same-length
+    (λ c. search needs)
     returns
     put-bracketed-requires
-    same-length-2
+    (λ c. search needs)
     returns-2)

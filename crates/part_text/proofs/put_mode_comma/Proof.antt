@@ -25,11 +25,8 @@ returns c = rw (none _ (c .if1 .taken)) (nothing-written _ _)
 put-requires : tie.Need-put-requires
 put-requires c κs = room-same _ (some _ (search needs) (c .before .if1 .left)) (c .before .before .before .pre)
 
-same-length : tie.Need-same-length
-same-length c = search needs
-
 returns-2 : tie.Need-returns-2
 returns-2 c = rw (some _ (search needs) (c .before .before .before .before .if1 .left)) (c .before .before .put .ensures)
 
 pub put-mode-comma-spec : {M : Type 1} → statement M
-put-mode-comma-spec = tie.close (tie.spec returns put-requires same-length returns-2)
+put-mode-comma-spec = tie.close (tie.spec returns put-requires (λ c. search needs) returns-2)

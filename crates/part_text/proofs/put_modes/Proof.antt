@@ -5,17 +5,11 @@ use Rattle.forms.specs.Forms.{modesIn}
 use Rattle.part_text.proofs.put_modes.Statement.{statement}
 use Rattle.part_text.proofs.put_modes.Tie as tie
 
-enum-told : tie.Need-enum-told
-enum-told c = search needs
-
 put-requires : tie.Need-put-requires
 unfolding modesIn
 put-requires c κs =
     let e = c .before in
     (rw (e .enum-told .given .1) at (e .before .before .before .pre)) .1
-
-enum-known-modes : tie.Need-enum-known-modes
-enum-known-modes c = search needs
 
 put-chosen-requires : tie.Need-put-chosen-requires
 unfolding modesIn
@@ -23,15 +17,9 @@ put-chosen-requires c κs =
     let e = c .before .before in
     rw (e .modes .given .1) at (e .before .before .before .pre)
 
-same-length : tie.Need-same-length
-same-length c = search needs
-
 returns : tie.Need-returns
 unfolding modesIn
 returns c = rw (c .before .before .before .before .enum-told .given .1) (c .before .before .put .ensures)
-
-same-length-2 : tie.Need-same-length-2
-same-length-2 c = search needs
 
 returns-2 : tie.Need-returns-2
 unfolding modesIn
@@ -41,11 +29,11 @@ pub put-modes-spec : {M : Type 1} → statement M
 put-modes-spec =
     tie.close
     (tie.spec
-    enum-told
+    (λ c. search needs)
     put-requires
-    enum-known-modes
+    (λ c. search needs)
     put-chosen-requires
-    same-length
+    (λ c. search needs)
     returns
-    same-length-2
+    (λ c. search needs)
     returns-2)

@@ -4,14 +4,8 @@ use borrow.Author.Needs.{needs}
 use Rattle.part_text.proofs.put_name.Statement.{statement}
 use Rattle.part_text.proofs.put_name.Tie as tie
 
-spelling-requires : tie.Need-spelling-requires
-spelling-requires c κs = search needs
-
 put-all-requires : tie.Need-put-all-requires
 put-all-requires c κs = rw (c .spelling .ensures) (c .before .before .before .before .pre)
-
-same-length : tie.Need-same-length
-same-length c = search needs
 
 returns : tie.Need-returns
 returns c =
@@ -19,4 +13,4 @@ returns c =
     rw (w .before .spelling .ensures) at (w .put-all .ensures)
 
 pub put-name-spec : {M : Type 1} → statement M
-put-name-spec = tie.close (tie.spec spelling-requires put-all-requires same-length returns)
+put-name-spec = tie.close (tie.spec (λ c κs. search needs) put-all-requires (λ c. search needs) returns)

@@ -8,26 +8,17 @@ use Rattle.part_text.proofs.Parts.{listed-names}
 use Rattle.part_text.proofs.put_operand.Statement.{statement}
 use Rattle.part_text.proofs.put_operand.Tie as tie
 
-enum-told : tie.Need-enum-told
-enum-told c = search needs
-
 put-requires : tie.Need-put-requires
 unfolding operandIn
 put-requires c κs =
     let e = c .before in
     rw (e .enum-told .given .1) at (e .before .before .before .before .pre .2)
 
-enum-known-operand : tie.Need-enum-known-operand
-enum-known-operand c = search needs
-
 put-symbol-requires : tie.Need-put-symbol-requires
 unfolding operandIn
 put-symbol-requires c κs =
     let e = c .before .before in
     (rw (e .operand .given .1) at (e .before .before .before .before .pre)) .2
-
-enum-known-operand-2 : tie.Need-enum-known-operand-2
-enum-known-operand-2 c = search needs
 
 put-names-requires : tie.Need-put-names-requires
 put-names-requires c κs =
@@ -36,22 +27,13 @@ put-names-requires c κs =
     let h = rw (e .operand2 .given .1) at (a .pre) in
     (h .0, h .1, room-same (a .args .at) (listed-names (now (a .args .text)) (e .operand2 .given .0 .0)) (h .2))
 
-same-length : tie.Need-same-length
-same-length c = search needs
-
 returns : tie.Need-returns
 unfolding operandIn
 returns c = rw (c .before .before .before .before .enum-told .given .1) (c .before .before .put .ensures)
 
-same-length-2 : tie.Need-same-length-2
-same-length-2 c = search needs
-
 returns-2 : tie.Need-returns-2
 unfolding operandIn
 returns-2 c = rw (c .before .before .before .before .before .operand .given .1) (c .before .before .put-symbol .ensures)
-
-same-length-3 : tie.Need-same-length-3
-same-length-3 c = search needs
 
 returns-3 : tie.Need-returns-3
 returns-3 c =
@@ -63,15 +45,15 @@ pub put-operand-spec : {M : Type 1} → statement M
 put-operand-spec =
     tie.close
     (tie.spec
-    enum-told
+    (λ c. search needs)
     put-requires
-    enum-known-operand
+    (λ c. search needs)
     put-symbol-requires
-    enum-known-operand-2
+    (λ c. search needs)
     put-names-requires
-    same-length
+    (λ c. search needs)
     returns
-    same-length-2
+    (λ c. search needs)
     returns-2
-    same-length-3
+    (λ c. search needs)
     returns-3)

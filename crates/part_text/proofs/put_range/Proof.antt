@@ -37,9 +37,6 @@ put-count-requires-2 c κs =
     room-first (digitsOf (a .args .high)) [] (a .pre)
     (further (further (further (going _ _ _) (p .put-count .ensures)) (q .put .ensures)) (r .put2 .ensures))
 
-same-length : tie.Need-same-length
-same-length c = search needs
-
 returns : tie.Need-returns
 returns c =
     let r = c .before .before .before .before .before .before in
@@ -57,5 +54,5 @@ put-range-spec =
     put-requires
     put-requires-2
     put-count-requires-2
-    same-length
+    (λ c. search needs)
     returns)

@@ -8,9 +8,6 @@ use Rattle.writing.proofs.Going.{going, further, no-more, room-first}
 use Rattle.part_text.proofs.put_symbol.Statement.{statement}
 use Rattle.part_text.proofs.put_symbol.Tie as tie
 
-put-requires : tie.Need-put-requires
-put-requires c κs = search needs
-
 put-name-requires : tie.Need-put-name-requires
 put-name-requires c κs =
     let p = c .before .before .before in
@@ -18,13 +15,10 @@ put-name-requires c κs =
     let n = nameIn (now (a .args .text)) (a .args .name) in
     room-first (n .spelling) [] (a .pre) (further (going _ _ _) (p .put .ensures))
 
-same-length : tie.Need-same-length
-same-length c = search needs
-
 returns : tie.Need-returns
 returns c =
     let p = c .before .before .before .before .before .before in
     no-more (further (further (going _ _ _) (p .put .ensures)) (c .before .before .put-name .ensures))
 
 pub put-symbol-spec : {M : Type 1} → statement M
-put-symbol-spec = tie.close (tie.spec put-requires put-name-requires same-length returns)
+put-symbol-spec = tie.close (tie.spec (λ c κs. search needs) put-name-requires (λ c. search needs) returns)

@@ -13,12 +13,6 @@ use Rattle.render.proofs.Answering.{none-lent, room-answers, no-room-an
 use Rattle.render.proofs.print_accepted.Statement.{statement}
 use Rattle.render.proofs.print_accepted.Tie as tie
 
-put-text-requires : tie.Need-put-text-requires
-put-text-requires c κs = search needs
-
-same-length : tie.Need-same-length
-same-length c = search needs
-
 returns : tie.Need-returns
 returns c =
     let p = c .before .before in
@@ -38,18 +32,6 @@ unchanged c =
     let a = k .pre .3 in
     none-lent (now (k .args .out)) _ _ (canonical (a .statements)) (c .put-text2 .result) refl (c .put-text2 .ensures (a .statements) (a .read))
 
-slice-relend-prefix-put-text : tie.Need-slice-relend-prefix-put-text
-slice-relend-prefix-put-text c = search needs
-
-slice-aggregate-put-text : tie.Need-slice-aggregate-put-text
-slice-aggregate-put-text c = search needs
-
-put-text-requires-2 : tie.Need-put-text-requires-2
-put-text-requires-2 c κs = search needs
-
-same-length-2 : tie.Need-same-length-2
-same-length-2 c = search needs
-
 returns-2 : tie.Need-returns-2
 returns-2 c =
     let p = c .before .before .before in
@@ -57,12 +39,6 @@ returns-2 c =
     let a = k .pre .3 in
     no-room-answers (k .args .limit) (now (k .args .text)) (now (k .args .out)) _ (a .statements) (a .read)
     (omega (arith, c .if2 .taken, p .put-text2 .ensures (a .statements) (a .read) .next, ap length (unchanged p))) (unchanged p)
-
-put-text-requires-3 : tie.Need-put-text-requires-3
-put-text-requires-3 c κs = search needs
-
-same-length-3 : tie.Need-same-length-3
-same-length-3 c = search needs
 
 returns-3 : tie.Need-returns-3
 returns-3 c =
@@ -78,14 +54,14 @@ pub print-accepted-spec : {M : Type 1} → statement M
 print-accepted-spec =
     tie.close
     (tie.spec
-    put-text-requires
-    same-length
+    (λ c κs. search needs)
+    (λ c. search needs)
     returns
-    slice-relend-prefix-put-text
-    slice-aggregate-put-text
-    put-text-requires-2
-    same-length-2
+    (λ c. search needs)
+    (λ c. search needs)
+    (λ c κs. search needs)
+    (λ c. search needs)
     returns-2
-    put-text-requires-3
-    same-length-3
+    (λ c κs. search needs)
+    (λ c. search needs)
     returns-3)

@@ -26,9 +26,6 @@ Inv-loop2 text classes labels keys out₀ limit forms count i₀ at₀ out i at 
 abbrev μ-loop2 : tie.MeasureT-loop2
 μ-loop2 text classes labels keys out₀ limit forms count i₀ at₀ out i at = count - i
 
-many-forms-requires : tie.Need-many-forms-requires Inv-loop μ-loop Inv-loop2 μ-loop2
-many-forms-requires c κs = search needs
-
 loop-holds : tie.Need-loop-holds Inv-loop μ-loop Inv-loop2 μ-loop2
 loop-holds c = (rw (c .new .ensures) (none-kept _ _ _), c .before .many-forms .ensures)
 
@@ -36,9 +33,6 @@ next-statement-requires : tie.Need-next-statement-requires Inv-loop μ-loop Inv-
 next-statement-requires c κs =
     let p = c .before .before .before .before .before .pre in
     (p .0, p .1, p .2, c .loop .inv .0 .few)
-
-enum-known-form : tie.Need-enum-known-form Inv-loop μ-loop Inv-loop2 μ-loop2
-enum-known-form c = search needs
 
 -- the statement that was read, and what is left behind it
 ahead : (c : tie.After-form Inv-loop μ-loop Inv-loop2 μ-loop2)
@@ -84,12 +78,6 @@ loop-again c =
       one-kept (l .loop .inv .0) (x .0) (x .1 .0 .at) (ahead f) (omega (arith, c .if1 .left, l .loop .inv .1)) (forward f .0),
       length-set (l .loop .forms) (l .loop .count) (x .0) ∙ l .loop .inv .1,
     )
-
-enum-told : tie.Need-enum-told Inv-loop μ-loop Inv-loop2 μ-loop2
-enum-told c = search needs
-
-enum-known-r : tie.Need-enum-known-r Inv-loop μ-loop Inv-loop2 μ-loop2
-enum-known-r c = search needs
 
 returns-2 : tie.Need-returns-2 Inv-loop μ-loop Inv-loop2 μ-loop2
 unfolding KeptAs nextThen
@@ -148,19 +136,19 @@ print-many-spec =
     μ-loop
     Inv-loop2
     μ-loop2
-    many-forms-requires
+    (λ c κs. search needs)
     (λ c κs. search needs)
     loop-holds
     next-statement-requires
-    enum-known-form
+    (λ c. search needs)
     returns
     mul-forms
     array-set-from-forms
     add-count
     loop-less
     loop-again
-    enum-told
-    enum-known-r
+    (λ c. search needs)
+    (λ c. search needs)
     returns-2
     loop2-holds
     mul-form

@@ -12,15 +12,6 @@ use Rattle.render.proofs.Answering.{refused-answers}
 use Rattle.render.proofs.print_twice.Statement.{statement}
 use Rattle.render.proofs.print_twice.Tie as tie
 
-count-under-requires : tie.Need-count-under-requires
-count-under-requires c κs = search needs
-
-enum-known-r : tie.Need-enum-known-r
-enum-known-r c = search needs
-
-enum-told : tie.Need-enum-told
-enum-told c = search needs
-
 print-accepted-requires : tie.Need-print-accepted-requires
 unfolding classTable classOf labelTable labelsOf keywordTable keywords countAs
 print-accepted-requires c κs =
@@ -39,20 +30,14 @@ returns c =
     refused-answers (a .limit) (now (a .text)) _ (r .0 .0)
     (counted-refused 0 (r .0 .0 .number) (r .0 .0 .place) (readText (a .limit) (now (a .text))) (sym (d .count-under .ensures) ∙ ap countAs (r .1)))
 
-same-length : tie.Need-same-length
-same-length c = search needs
-
-returns-2 : tie.Need-returns-2
-returns-2 c = search needs
-
 pub print-twice-spec : {M : Type 1} → statement M
 print-twice-spec =
     tie.close
     (tie.spec
-    count-under-requires
-    enum-known-r
-    enum-told
+    (λ c κs. search needs)
+    (λ c. search needs)
+    (λ c. search needs)
     print-accepted-requires
     returns
-    same-length
-    returns-2)
+    (λ c. search needs)
+    (λ c. search needs))

@@ -17,46 +17,19 @@ returns c =
     let a = c .before .before .before .args in
     refused-answers (a .limit) (now (a .text)) (now (a .out)) (record { number = 1; place = 0 }) (long-text (a .limit) (now (a .text)) (c .if1 .taken))
 
-print-twice-requires : tie.Need-print-twice-requires
-print-twice-requires c κs = search needs
-
-same-length : tie.Need-same-length
-same-length c = search needs
-
-returns-2 : tie.Need-returns-2
-returns-2 c = search needs
-
 print-kept-requires : tie.Need-print-kept-requires
 unfolding classTable classOf labelTable labelsOf keywordTable keywords
 print-kept-requires c κs =
     let e = c .before .before .before .before in
     (refl, refl, refl, e .before .if1 .left, e .if2 .left)
 
-enum-known-n : tie.Need-enum-known-n
-enum-known-n c = search needs
-
-enum-known-r : tie.Need-enum-known-r
-enum-known-r c = search needs
-
 earliest-requires : tie.Need-earliest-requires
 unfolding classTable classOf
 earliest-requires c κs = refl
 
-enum-told : tie.Need-enum-told
-enum-told c = search needs
-
-print-twice-requires-2 : tie.Need-print-twice-requires-2
-print-twice-requires-2 c κs = search needs
-
-same-length-2 : tie.Need-same-length-2
-same-length-2 c = search needs
-
 returns-3 : tie.Need-returns-3
 unfolding KeptAs
 returns-3 c = subst (KeptAs _ _ _ _) (c .before .n .given .1) (c .before .before .before .before .before .print-kept .ensures)
-
-same-length-3 : tie.Need-same-length-3
-same-length-3 c = search needs
 
 returns-4 : tie.Need-returns-4
 returns-4 c =
@@ -67,9 +40,6 @@ returns-4 c =
     refused-next (a .limit) (now (a .text)) (now (a .out)) (k .print-kept .last .1 .1 .1 .1 .0) (r .r .given .0 .0) (c .earliest .result)
     (subst (KeptAs (a .limit) (now (a .text)) (now (a .out)) (k .print-kept .last .1 .1 .1 .1 .0)) (r .r .given .1) (k .print-kept .ensures))
     (e .before .if1 .left) (c .earliest .ensures)
-
-same-length-4 : tie.Need-same-length-4
-same-length-4 c = search needs
 
 returns-5 : tie.Need-returns-5
 returns-5 c =
@@ -86,18 +56,18 @@ print-under-spec =
     tie.close
     (tie.spec
     returns
-    print-twice-requires
-    same-length
-    returns-2
+    (λ c κs. search needs)
+    (λ c. search needs)
+    (λ c. search needs)
     print-kept-requires
-    enum-known-n
-    enum-known-r
+    (λ c. search needs)
+    (λ c. search needs)
     earliest-requires
-    enum-told
-    print-twice-requires-2
-    same-length-2
+    (λ c. search needs)
+    (λ c κs. search needs)
+    (λ c. search needs)
     returns-3
-    same-length-3
+    (λ c. search needs)
     returns-4
-    same-length-4
+    (λ c. search needs)
     returns-5)

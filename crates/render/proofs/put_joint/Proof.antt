@@ -13,9 +13,6 @@ put-requires c κs =
     let k = c .before .before .before in
     room-same (k .args .at) (joint-later (k .args .n) (c .before .if1 .left)) (k .pre)
 
-same-length : tie.Need-same-length
-same-length c = search needs
-
 returns-2 : tie.Need-returns-2
 returns-2 c =
     let p = c .before .before in
@@ -23,4 +20,4 @@ returns-2 c =
     rw (joint-later (k .args .n) (p .before .before .if1 .left)) (p .put .ensures)
 
 pub put-joint-spec : {M : Type 1} → statement M
-put-joint-spec = tie.close (tie.spec returns put-requires same-length returns-2)
+put-joint-spec = tie.close (tie.spec returns put-requires (λ c. search needs) returns-2)

@@ -22,9 +22,6 @@ put-statement-requires c κs =
     let k = j .before .before .before .before in
     (k .pre .0, k .pre .1, k .pre .2, k .pre .3, room-left (k .pre .4) (further (going _ _ _) (j .put-joint .ensures)))
 
-same-length : tie.Need-same-length
-same-length c = search needs
-
 returns : tie.Need-returns
 returns c =
     let p = c .before .before in
@@ -32,4 +29,4 @@ returns c =
     written-on (j .put-joint .ensures) (p .put-statement .ensures)
 
 pub put-next-spec : {M : Type 1} → statement M
-put-next-spec = tie.close (tie.spec put-joint-requires put-statement-requires same-length returns)
+put-next-spec = tie.close (tie.spec put-joint-requires put-statement-requires (λ c. search needs) returns)

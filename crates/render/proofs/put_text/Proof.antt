@@ -28,9 +28,6 @@ next-statement-requires c κs =
     let p = c .before .before .before .before .pre in
     (p .0, p .1, p .2, c .loop .inv .few)
 
-enum-known-form : tie.Need-enum-known-form Inv-loop μ-loop
-enum-known-form c = search needs
-
 -- the statement that was read, and what is left behind it
 ahead : (c : tie.After-form Inv-loop μ-loop)
     → let l = c .before .before .before in
@@ -80,9 +77,6 @@ loop-again c =
     let x = f .form .given .0 in
     one-more (l .loop .inv) (x .0) (x .1 .0 .at) (ahead f) (omega (arith, forward f, l .loop .inv .few)) (p .put-next .ensures)
 
-enum-told : tie.Need-enum-told Inv-loop μ-loop
-enum-told c = search needs
-
 same-length : tie.Need-same-length Inv-loop μ-loop
 same-length c = as-long (c .before .before .before .loop .inv .gone)
 
@@ -91,9 +85,6 @@ unfolding nextThen
 returns c =
     let d = c .before .before in
     all-printed (d .before .loop .inv) (d .next-statement .ensures .0 ∙ ap (nextThen _ _ _) (c .enum-told .given .1))
-
-enum-told-2 : tie.Need-enum-told-2 Inv-loop μ-loop
-enum-told-2 c = search needs
 
 same-length-2 : tie.Need-same-length-2 Inv-loop μ-loop
 same-length-2 c = as-long (c .before .before .before .loop .inv .gone)
@@ -113,14 +104,14 @@ put-text-spec =
     (λ c κs. search needs)
     loop-holds
     next-statement-requires
-    enum-known-form
+    (λ c. search needs)
     put-next-requires
     add-n
     loop-less
     loop-again
-    enum-told
+    (λ c. search needs)
     same-length
     returns
-    enum-told-2
+    (λ c. search needs)
     same-length-2
     returns-2)

@@ -12,9 +12,6 @@ returns c =
     let a = c .before .before .args in
     rw (name-length (now (a .text)) (a .name)) (omega arith)
 
-sub-left : tie.Need-sub-left
-sub-left c = search needs
-
 returns-2 : tie.Need-returns-2
 returns-2 c =
     let a = c .before .before .before .before .before .args in
@@ -26,4 +23,4 @@ returns-3 c =
     rw (name-length (now (a .text)) (a .name)) (omega arith)
 
 pub length-in-spec : {M : Type 1} → statement M
-length-in-spec = tie.close (tie.spec returns sub-left returns-2 returns-3)
+length-in-spec = tie.close (tie.spec returns (λ c. search needs) returns-2 returns-3)

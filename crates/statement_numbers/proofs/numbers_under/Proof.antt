@@ -11,7 +11,7 @@ use Rattle.forms.specs.Forms.{statementIn}
 use Rattle.parts.proofs.Fitting.{statement-fits}
 use Rattle.statements.specs.Answers.{statementAs}
 use Rattle.statements.proofs.Found.{found-well}
-use Rattle.values.specs.Calls.{stating}
+use Rattle.statements.specs.Answers.{stating}
 use Rattle.statement_numbers.specs.Answers.{numbered, numbersAs}
 use Rattle.statement_numbers.proofs.Whole.{statement-numbers, numbers-ready, handed-on}
 use borrow.Author.Needs.{needs}

@@ -8,27 +8,15 @@ use Rattle.statement_numbers.proofs.Pieces.{is-small}
 use Rattle.statement_numbers.proofs.put.Statement.{statement}
 use Rattle.statement_numbers.proofs.put.Tie as tie
 
-add-next : tie.Need-add-next
-add-next c = search needs
-
 returns : tie.Need-returns
 returns c = one-past (now (c .before .args .out)) (c .before .args .at) (c .before .args .number) (c .if1 .taken)
 
 cast-out : tie.Need-cast-out
 cast-out c = omega (arith, is-small (c .before .pre))
 
-mul-out : tie.Need-mul-out
-mul-out c = search needs
-
-slice-write-out : tie.Need-slice-write-out
-slice-write-out c = search needs
-
-same-length : tie.Need-same-length
-same-length c = search needs
-
 returns-2 : tie.Need-returns-2
 returns-2 c = one-set (now (c .before .args .out)) (c .before .args .at) (c .before .args .number)
 
 pub put-spec : {M : Type 1} → statement M
 put-spec =
-    tie.close (tie.spec add-next returns cast-out mul-out slice-write-out same-length returns-2)
+    tie.close (tie.spec (λ c. search needs) returns cast-out (λ c. search needs) (λ c. search needs) (λ c. search needs) returns-2)

@@ -8,9 +8,6 @@ put-two-requires : tie.Need-put-two-requires
 put-two-requires c κs =
     rw (c .before .if1 .taken) at (c .before .before .before .pre)
 
-same-length : tie.Need-same-length
-same-length c = search needs
-
 returns : tie.Need-returns
 returns c =
     rw (c .before .before .before .before .if1 .taken) (c .before .before .put-two .ensures)
@@ -18,9 +15,6 @@ returns c =
 put-two-requires-2 : tie.Need-put-two-requires-2
 put-two-requires-2 c κs =
     rw (c .before .if1 .left) at (c .before .before .before .pre)
-
-same-length-2 : tie.Need-same-length-2
-same-length-2 c = search needs
 
 returns-2 : tie.Need-returns-2
 returns-2 c =
@@ -31,8 +25,8 @@ put-head-spec =
     tie.close
     (tie.spec
     put-two-requires
-    same-length
+    (λ c. search needs)
     returns
     put-two-requires-2
-    same-length-2
+    (λ c. search needs)
     returns-2)

@@ -4,31 +4,19 @@ use borrow.Author.Needs.{needs}
 use Rattle.statement_numbers.proofs.put_op.Statement.{statement}
 use Rattle.statement_numbers.proofs.put_op.Tie as tie
 
-enum-told : tie.Need-enum-told
-enum-told c = search needs
-
 put-requires : tie.Need-put-requires
 put-requires c κs =
     let e = c .before in
     rw (e .enum-told .given .1) at (e .before .before .before .pre)
-
-enum-told-2 : tie.Need-enum-told-2
-enum-told-2 c = search needs
 
 put-requires-2 : tie.Need-put-requires-2
 put-requires-2 c κs =
     let e = c .before in
     rw (e .enum-told2 .given .1) at (e .before .before .before .pre)
 
-same-length : tie.Need-same-length
-same-length c = search needs
-
 returns : tie.Need-returns
 returns c =
     rw (c .before .before .before .before .enum-told .given .1) (c .before .before .put .ensures)
-
-same-length-2 : tie.Need-same-length-2
-same-length-2 c = search needs
 
 returns-2 : tie.Need-returns-2
 returns-2 c =
@@ -38,11 +26,11 @@ pub put-op-spec : {M : Type 1} → statement M
 put-op-spec =
     tie.close
     (tie.spec
-    enum-told
+    (λ c. search needs)
     put-requires
-    enum-told-2
+    (λ c. search needs)
     put-requires-2
-    same-length
+    (λ c. search needs)
     returns
-    same-length-2
+    (λ c. search needs)
     returns-2)

@@ -33,7 +33,7 @@ put-part-requires c κs =
       a .pre .0,
       a .pre .1 .first,
       ready-first (numbersIn s (r .first)) (numbersIn s (r .second) ++ (numbersIn s (r .third) ++ numbersIn s (r .fourth))) (ready a)
-      (further (going _ _ _) (x1 .put-head .ensures)),
+          (further (going _ _ _) (x1 .put-head .ensures)),
     )
 
 put-part-requires-2 : tie.Need-put-part-requires-2
@@ -46,7 +46,7 @@ put-part-requires-2 c κs =
       a .pre .0,
       a .pre .1 .second,
       ready-first (numbersIn s (r .second)) (numbersIn s (r .third) ++ numbersIn s (r .fourth)) (ready a)
-      (further (further (going _ _ _) (x2 .put-head .ensures)) (x1 .put-part .ensures)),
+          (further (further (going _ _ _) (x2 .put-head .ensures)) (x1 .put-part .ensures)),
     )
 
 put-part-requires-3 : tie.Need-put-part-requires-3
@@ -60,7 +60,7 @@ put-part-requires-3 c κs =
       a .pre .0,
       a .pre .1 .third,
       ready-first (numbersIn s (r .third)) (numbersIn s (r .fourth)) (ready a)
-      (further (further (further (going _ _ _) (x3 .put-head .ensures)) (x2 .put-part .ensures)) (x1 .put-part2 .ensures)),
+          (further (further (further (going _ _ _) (x3 .put-head .ensures)) (x2 .put-part .ensures)) (x1 .put-part2 .ensures)),
     )
 
 put-part-requires-4 : tie.Need-put-part-requires-4
@@ -73,8 +73,8 @@ put-part-requires-4 c κs =
       a .pre .0,
       a .pre .1 .fourth,
       ready-left (ready a)
-      (further (further (further (further (going _ _ _) (x4 .put-head .ensures)) (x3 .put-part .ensures)) (x2 .put-part2 .ensures))
-      (x1 .put-part3 .ensures)),
+          (further (further (further (further (going _ _ _) (x4 .put-head .ensures)) (x3 .put-part .ensures)) (x2 .put-part2 .ensures))
+          (x1 .put-part3 .ensures)),
     )
 
 returns : tie.Need-returns

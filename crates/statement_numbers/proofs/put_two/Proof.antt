@@ -19,13 +19,10 @@ put-requires-2 c κs =
     let a = p .before .before .before in
     ready-left (a .pre) (further (going _ _ _) (p .put .ensures))
 
-same-length : tie.Need-same-length
-same-length c = search needs
-
 returns : tie.Need-returns
 returns c =
     let p = c .before .before .before .before .before .before in
     finished (further (going _ _ _) (p .put .ensures)) (c .before .before .put2 .ensures)
 
 pub put-two-spec : {M : Type 1} → statement M
-put-two-spec = tie.close (tie.spec put-requires put-requires-2 same-length returns)
+put-two-spec = tie.close (tie.spec put-requires put-requires-2 (λ c. search needs) returns)

@@ -15,7 +15,7 @@ returns-2 : tie.Need-returns-2
 returns-2 c = λ s. rw (c .enum-told2 .given .1)
 
 returns-3 : tie.Need-returns-3
-returns-3 c = 
+returns-3 c =
     λ s. c .is-plus .ensures ∙ rw (c .before .before .part .given .1) (sym (ap someShapes (append-nil (operatorShapes (opAs (c .before .before .part .given .0 .0))))))
 
 returns-4 : tie.Need-returns-4

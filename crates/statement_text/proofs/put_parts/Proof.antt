@@ -41,7 +41,7 @@ put-part-requires c κs =
       a .pre .1,
       a .pre .3 .first,
       room-first (spellAll (argumentShapes (shapesIn (text a) (r .first)))) (second (text a) r) (room a)
-      (further (going _ _ _) (x1 .put-head .ensures)),
+          (further (going _ _ _) (x1 .put-head .ensures)),
     )
 
 put-also-requires : tie.Need-put-also-requires
@@ -54,7 +54,7 @@ put-also-requires c κs =
       a .pre .1,
       a .pre .3 .second,
       room-first (spellAll (behind (shapesIn (text a) (r .second)))) (third (text a) r) (room a)
-      (further (further (going _ _ _) (x2 .put-head .ensures)) (x1 .put-part .ensures)),
+          (further (further (going _ _ _) (x2 .put-head .ensures)) (x1 .put-part .ensures)),
     )
 
 put-also-requires-2 : tie.Need-put-also-requires-2
@@ -68,7 +68,7 @@ put-also-requires-2 c κs =
       a .pre .1,
       a .pre .3 .third,
       room-first (spellAll (behind (shapesIn (text a) (r .third)))) (fourth (text a) r) (room a)
-      (further (further (further (going _ _ _) (x3 .put-head .ensures)) (x2 .put-part .ensures)) (x1 .put-also .ensures)),
+          (further (further (further (going _ _ _) (x3 .put-head .ensures)) (x2 .put-part .ensures)) (x1 .put-also .ensures)),
     )
 
 put-also-requires-3 : tie.Need-put-also-requires-3
@@ -83,8 +83,8 @@ put-also-requires-3 c κs =
       a .pre .1,
       a .pre .3 .fourth,
       room-first (spellAll (behind (shapesIn (text a) (r .fourth)))) (bytes ")") (room a)
-      (further (further (further (further (going _ _ _) (x4 .put-head .ensures)) (x3 .put-part .ensures)) (x2 .put-also .ensures))
-      (x1 .put-also2 .ensures)),
+          (further (further (further (further (going _ _ _) (x4 .put-head .ensures)) (x3 .put-part .ensures)) (x2 .put-also .ensures))
+          (x1 .put-also2 .ensures)),
     )
 
 put-requires : tie.Need-put-requires

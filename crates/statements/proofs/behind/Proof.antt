@@ -15,9 +15,6 @@ use Rattle.statements.proofs.behind.Tie as tie
 here : (d : tie.After-token) → Known (now (d .before .before .args .text)) (d .before .before .args .cur .at) (d .token .result)
 here d = known _ _ (d .token .result) (d .token .ensures)
 
-token-requires : tie.Need-token-requires
-token-requires c κs = search needs
-
 returns : tie.Need-returns
 unfolding EndedThen EndedFurther
 returns c =
@@ -32,9 +29,6 @@ returns-2 c =
     let l = ends-at (here d) (c .if2 .taken) in
     (λ limit. ended-finish limit _ _ _ (d .token .result) (known-end (here d) (c .if2 .taken)) l, (λ h. omega (arith, l), omega (arith, l)))
 
-crowded-requires : tie.Need-crowded-requires
-crowded-requires c κs = search needs
-
 returns-3 : tie.Need-returns-3
 unfolding EndedThen EndedFurther
 returns-3 c =
@@ -46,4 +40,4 @@ returns-3 c =
     )
 
 pub behind-spec : {M : Type 1} → statement M
-behind-spec = tie.close (tie.spec token-requires returns returns-2 crowded-requires returns-3)
+behind-spec = tie.close (tie.spec (λ c κs. search needs) returns returns-2 (λ c κs. search needs) returns-3)

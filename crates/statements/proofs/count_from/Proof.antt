@@ -34,9 +34,6 @@ next-statement-requires c κs =
     let p = c .before .before .before .pre in
     (p .0, p .1, p .2, c .loop .inv .few)
 
-enum-known-c : tie.Need-enum-known-c Inv-loop μ-loop
-enum-known-c c = search needs
-
 add-n : tie.Need-add-n Inv-loop μ-loop
 unfolding NextFurther
 add-n c =
@@ -80,9 +77,6 @@ loop-again c =
       few = omega (arith, f .0, g .few);
     }
 
-enum-told : tie.Need-enum-told Inv-loop μ-loop
-enum-told c = search needs
-
 returns : tie.Need-returns Inv-loop μ-loop
 unfolding nextThen countAs
 returns c =
@@ -95,9 +89,6 @@ returns c =
     ∙ ap (counted (l .loop .n)) (d .next-statement .ensures .0 ∙ ap (nextThen (a .limit) s (l .loop .n)) (c .enum-told .given .1))
     ∙ ap accepted (add-zero (l .loop .n))
     )
-
-enum-known-r : tie.Need-enum-known-r Inv-loop μ-loop
-enum-known-r c = search needs
 
 returns-2 : tie.Need-returns-2 Inv-loop μ-loop
 unfolding nextThen countAs
@@ -119,11 +110,11 @@ count-from-spec =
     (λ c κs. search needs)
     loop-holds
     next-statement-requires
-    enum-known-c
+    (λ c. search needs)
     add-n
     loop-less
     loop-again
-    enum-told
+    (λ c. search needs)
     returns
-    enum-known-r
+    (λ c. search needs)
     returns-2)

@@ -19,12 +19,6 @@ count-from-requires : tie.Need-count-from-requires
 unfolding classTable classOf labelTable labelsOf keywordTable keywords
 count-from-requires c κs = (refl, refl, refl)
 
-enum-known-n : tie.Need-enum-known-n
-enum-known-n c = search needs
-
-enum-known-r : tie.Need-enum-known-r
-enum-known-r c = search needs
-
 earliest-requires : tie.Need-earliest-requires
 unfolding classTable classOf
 earliest-requires c κs = refl
@@ -56,8 +50,8 @@ count-under-spec =
     (tie.spec
     returns
     count-from-requires
-    enum-known-n
-    enum-known-r
+    (λ c. search needs)
+    (λ c. search needs)
     earliest-requires
     returns-2
     returns-3)

@@ -6,15 +6,6 @@ use borrow.Author.Needs.{needs}
 use Rattle.statements.proofs.earliest.Statement.{statement}
 use Rattle.statements.proofs.earliest.Tie as tie
 
-scan-requires : tie.Need-scan-requires
-scan-requires c κs = search needs
-
-enum-known-at : tie.Need-enum-known-at
-enum-known-at c = search needs
-
-enum-told : tie.Need-enum-told
-enum-told c = search needs
-
 returns : tie.Need-returns
 returns c =
     let v = c .before .before .before in
@@ -27,4 +18,4 @@ returns-2 c =
     λ limit h e. whole-text limit (now (v .before .before .args .text)) h (sym (v .scan .ensures) ∙ c .enum-told .given .1) ∙ e
 
 pub earliest-spec : {M : Type 1} → statement M
-earliest-spec = tie.close (tie.spec scan-requires enum-known-at enum-told returns returns-2)
+earliest-spec = tie.close (tie.spec (λ c κs. search needs) (λ c. search needs) (λ c. search needs) returns returns-2)

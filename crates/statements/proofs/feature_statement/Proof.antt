@@ -14,12 +14,6 @@ use borrow.Author.Needs.{needs}
 use Rattle.statements.proofs.feature_statement.Statement.{statement}
 use Rattle.statements.proofs.feature_statement.Tie as tie
 
-read-feature-requires : tie.Need-read-feature-requires
-read-feature-requires c κs = search needs
-
-enum-known-optional : tie.Need-enum-known-optional
-enum-known-optional c = search needs
-
 build-requires : tie.Need-build-requires
 unfolding FeatureFurther
 build-requires c κs =
@@ -29,15 +23,6 @@ build-requires c κs =
     let p = d .before .before .pre in
     let f = subst (FeatureFurther (now (a .text)) (a .cur .at)) (x .1) (d .read-feature .ensures .1) in
     ((p .0, p .1, p .2), (p .3, f .2))
-
-enum-known-feature : tie.Need-enum-known-feature
-enum-known-feature c = search needs
-
-enum-known-r : tie.Need-enum-known-r
-enum-known-r c = search needs
-
-enum-known-r-2 : tie.Need-enum-known-r-2
-enum-known-r-2 c = search needs
 
 returns : tie.Need-returns
 unfolding featureThen FeatureFurther featureMade builtAs statementThen StatementFurther statementIn
@@ -84,12 +69,12 @@ pub feature-statement-spec : {M : Type 1} → statement M
 feature-statement-spec =
     tie.close
     (tie.spec
-    read-feature-requires
-    enum-known-optional
+    (λ c κs. search needs)
+    (λ c. search needs)
     build-requires
-    enum-known-feature
-    enum-known-r
-    enum-known-r-2
+    (λ c. search needs)
+    (λ c. search needs)
+    (λ c. search needs)
     returns
     returns-2
     returns-3)

@@ -11,24 +11,6 @@ use borrow.Author.Needs.{needs}
 use Rattle.statements.proofs.is_let.Statement.{statement}
 use Rattle.statements.proofs.is_let.Tie as tie
 
-add-end : tie.Need-add-end
-add-end c = search needs
-
-sub-same-word : tie.Need-sub-same-word
-sub-same-word c = search needs
-
-part-same-word-start : tie.Need-part-same-word-start
-part-same-word-start c = search needs
-
-part-same-word-end : tie.Need-part-same-word-end
-part-same-word-end c = search needs
-
-slice-aggregate-same-word : tie.Need-slice-aggregate-same-word
-slice-aggregate-same-word c = search needs
-
-same-word-requires : tie.Need-same-word-requires
-same-word-requires c κs = search needs
-
 returns : tie.Need-returns
 returns c =
     let a = c .before .before .before .before .before .args in
@@ -39,10 +21,10 @@ pub is-let-spec : {M : Type 1} → statement M
 is-let-spec =
     tie.close
     (tie.spec
-    add-end
-    sub-same-word
-    part-same-word-start
-    part-same-word-end
-    slice-aggregate-same-word
-    same-word-requires
+    (λ c. search needs)
+    (λ c. search needs)
+    (λ c. search needs)
+    (λ c. search needs)
+    (λ c. search needs)
+    (λ c κs. search needs)
     returns)

@@ -15,24 +15,6 @@ use borrow.Author.Needs.{needs}
 use Rattle.statements.proofs.let_statement.Statement.{statement}
 use Rattle.statements.proofs.let_statement.Tie as tie
 
-read-let-requires : tie.Need-read-let-requires
-read-let-requires c κs = search needs
-
-enum-known-name : tie.Need-enum-known-name
-enum-known-name c = search needs
-
-items-of-requires : tie.Need-items-of-requires
-items-of-requires c κs = search needs
-
-enum-known-values : tie.Need-enum-known-values
-enum-known-values c = search needs
-
-enum-known-r : tie.Need-enum-known-r
-enum-known-r c = search needs
-
-enum-known-r-2 : tie.Need-enum-known-r-2
-enum-known-r-2 c = search needs
-
 returns : tie.Need-returns
 unfolding letThen LetFurther letMade itemsAs statementThen StatementFurther statementIn
 returns c =
@@ -78,12 +60,12 @@ pub let-statement-spec : {M : Type 1} → statement M
 let-statement-spec =
     tie.close
     (tie.spec
-    read-let-requires
-    enum-known-name
-    items-of-requires
-    enum-known-values
-    enum-known-r
-    enum-known-r-2
+    (λ c κs. search needs)
+    (λ c. search needs)
+    (λ c κs. search needs)
+    (λ c. search needs)
+    (λ c. search needs)
+    (λ c. search needs)
     returns
     returns-2
     returns-3)

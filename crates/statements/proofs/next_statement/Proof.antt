@@ -73,9 +73,6 @@ opened-here m =
     ∙ ap (λ (k : Name). oneThen (a .limit) (length s) (a .n) (stepIn (a .limit) s (opened (k .place) (word (k .spelling))) (t .next .at)))
     (same-name s t (m .named .ensures))
 
-first-token-requires : tie.Need-first-token-requires
-first-token-requires c κs = search needs
-
 returns : tie.Need-returns
 unfolding nextThen NextFurther
 returns c =
@@ -83,9 +80,6 @@ returns c =
     let a = d .before .before .args in
     let f = d .first-token .ensures in
     (f .same (a .limit) (a .n) ∙ at-finish (a .limit) _ (a .n) _ (d .first-token .result) (known-end (here d) (c .if1 .taken)), tt)
-
-crowded-requires : tie.Need-crowded-requires
-crowded-requires c κs = search needs
 
 returns-2 : tie.Need-returns-2
 unfolding nextThen NextFurther
@@ -98,9 +92,6 @@ returns-2 c =
           ∙ ap refusedAs (sym (c .crowded .ensures)),
       tt,
     )
-
-crowded-requires-2 : tie.Need-crowded-requires-2
-crowded-requires-2 c κs = search needs
 
 returns-3 : tie.Need-returns-3
 unfolding nextThen NextFurther
@@ -126,9 +117,6 @@ statement-requires c κs =
     let p = d .before .before .pre in
     (p .0, p .1, p .2, in-text _ (d .first-token .result) (c .named .ensures) (word-at (c .before)))
 
-enum-known-form : tie.Need-enum-known-form
-enum-known-form c = search needs
-
 add-behind : tie.Need-add-behind
 unfolding StatementFurther
 add-behind c =
@@ -138,15 +126,6 @@ add-behind c =
 
 behind-requires : tie.Need-behind-requires
 behind-requires c κs = c .before .before .before .before .before .before .before .before .before .before .before .before .before .pre .0
-
-enum-known-d : tie.Need-enum-known-d
-enum-known-d c = search needs
-
-enum-known-r : tie.Need-enum-known-r
-enum-known-r c = search needs
-
-enum-known-r-2 : tie.Need-enum-known-r-2
-enum-known-r-2 c = search needs
 
 returns-4 : tie.Need-returns-4
 unfolding nextThen NextFurther statementThen StatementFurther EndedThen EndedFurther
@@ -216,20 +195,20 @@ pub next-statement-spec : {M : Type 1} → statement M
 next-statement-spec =
     tie.close
     (tie.spec
-    first-token-requires
+    (λ c κs. search needs)
     returns
-    crowded-requires
+    (λ c κs. search needs)
     returns-2
-    crowded-requires-2
+    (λ c κs. search needs)
     returns-3
     named-requires
     statement-requires
-    enum-known-form
+    (λ c. search needs)
     add-behind
     behind-requires
-    enum-known-d
-    enum-known-r
-    enum-known-r-2
+    (λ c. search needs)
+    (λ c. search needs)
+    (λ c. search needs)
     returns-4
     returns-5
     returns-6)

@@ -81,9 +81,6 @@ next-statement-requires c κs =
     let p = c .before .before .before .pre in
     (p .0, p .1, p .2, c .loop .inv .few)
 
-enum-known-form : tie.Need-enum-known-form Inv-loop μ-loop
-enum-known-form c = search needs
-
 add-n : tie.Need-add-n Inv-loop μ-loop
 unfolding NextFurther
 add-n c = let f = further (c .before) in omega (arith, f .0, f .1, c .before .before .before .before .before .loop .inv .few)
@@ -102,9 +99,6 @@ loop-again c =
       sought = subst (λ (k : ℕ). Behind d k (c .if1 .kept)) (sym (add-one (l .loop .n))) (sought-behind c);
       few = omega (arith, f .0, l .loop .inv .few);
     }
-
-enum-told : tie.Need-enum-told Inv-loop μ-loop
-enum-told c = search needs
 
 returns : tie.Need-returns Inv-loop μ-loop
 unfolding nextThen nthAs
@@ -128,9 +122,6 @@ returns-2 c =
     (d .next-statement .ensures .0 ∙ ap (nextThen (a .limit) (now (a .text)) (l .loop .n)) (c .before .enum-told .given .1))
     (c .if2 .left))
 
-enum-known-r : tie.Need-enum-known-r Inv-loop μ-loop
-enum-known-r c = search needs
-
 returns-3 : tie.Need-returns-3 Inv-loop μ-loop
 unfolding nextThen nthAs
 returns-3 c =
@@ -151,12 +142,12 @@ nth-spec =
     (λ c κs. search needs)
     loop-holds
     next-statement-requires
-    enum-known-form
+    (λ c. search needs)
     add-n
     loop-less
     loop-again
-    enum-told
+    (λ c. search needs)
     returns
     returns-2
-    enum-known-r
+    (λ c. search needs)
     returns-3)

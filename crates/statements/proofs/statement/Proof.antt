@@ -9,12 +9,6 @@ use borrow.Author.Needs.{needs}
 use Rattle.statements.proofs.statement.Statement.{statement}
 use Rattle.statements.proofs.statement.Tie as tie
 
-is-let-requires : tie.Need-is-let-requires
-is-let-requires c κs = search needs
-
-let-statement-requires : tie.Need-let-statement-requires
-let-statement-requires c κs = search needs
-
 returns : tie.Need-returns
 unfolding opened
 returns c =
@@ -26,9 +20,6 @@ returns c =
           ∙ c .let-statement .ensures .0,
       c .let-statement .ensures .1,
     )
-
-feature-statement-requires : tie.Need-feature-statement-requires
-feature-statement-requires c κs = search needs
 
 returns-2 : tie.Need-returns-2
 unfolding opened
@@ -45,4 +36,4 @@ returns-2 c =
 pub statement-spec : {M : Type 1} → statement M
 statement-spec =
     tie.close
-    (tie.spec is-let-requires let-statement-requires returns feature-statement-requires returns-2)
+    (tie.spec (λ c κs. search needs) (λ c κs. search needs) returns (λ c κs. search needs) returns-2)

@@ -22,15 +22,6 @@ nth-requires : tie.Need-nth-requires
 unfolding classTable classOf labelTable labelsOf keywordTable keywords
 nth-requires c κs = (refl, refl, refl)
 
-enum-known-form : tie.Need-enum-known-form
-enum-known-form c = search needs
-
-enum-told : tie.Need-enum-told
-enum-told c = search needs
-
-enum-known-r : tie.Need-enum-known-r
-enum-known-r c = search needs
-
 earliest-requires : tie.Need-earliest-requires
 unfolding classTable classOf
 earliest-requires c κs = refl
@@ -70,9 +61,9 @@ statement-under-spec =
     (tie.spec
     returns
     nth-requires
-    enum-known-form
-    enum-told
-    enum-known-r
+    (λ c. search needs)
+    (λ c. search needs)
+    (λ c. search needs)
     earliest-requires
     returns-2
     returns-3

@@ -27,12 +27,6 @@ beyond :
     (e .token2 .result)
 beyond e = known _ _ (e .token2 .result) (e .token2 .ensures)
 
-token-requires : tie.Need-token-requires
-token-requires c κs = search needs
-
-unexpected-requires : tie.Need-unexpected-requires
-unexpected-requires c κs = search needs
-
 returns : tie.Need-returns
 unfolding turn letThen LetFurther
 returns c =
@@ -41,12 +35,6 @@ returns c =
           ∙ ap refusedBy (sym (c .unexpected .ensures)),
       tt,
     )
-
-token-requires-2 : tie.Need-token-requires-2
-token-requires-2 c κs = search needs
-
-unexpected-requires-2 : tie.Need-unexpected-requires-2
-unexpected-requires-2 c κs = search needs
 
 returns-2 : tie.Need-returns-2
 unfolding turn letThen LetFurther
@@ -95,11 +83,11 @@ pub let-name-spec : {M : Type 1} → statement M
 let-name-spec =
     tie.close
     (tie.spec
-    token-requires
-    unexpected-requires
+    (λ c κs. search needs)
+    (λ c κs. search needs)
     returns
-    token-requires-2
-    unexpected-requires-2
+    (λ c κs. search needs)
+    (λ c κs. search needs)
     returns-2
     named-requires
     let-value-requires

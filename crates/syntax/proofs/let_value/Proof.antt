@@ -11,30 +11,6 @@ use borrow.Author.Needs.{needs}
 use Rattle.syntax.proofs.let_value.Statement.{statement}
 use Rattle.syntax.proofs.let_value.Tie as tie
 
-argument-requires : tie.Need-argument-requires
-argument-requires c κs = search needs
-
-enum-known-arg : tie.Need-enum-known-arg
-enum-known-arg c = search needs
-
-after-argument-requires : tie.Need-after-argument-requires
-after-argument-requires c κs = search needs
-
-enum-known-end : tie.Need-enum-known-end
-enum-known-end c = search needs
-
-enum-known-o : tie.Need-enum-known-o
-enum-known-o c = search needs
-
-enum-known-r : tie.Need-enum-known-r
-enum-known-r c = search needs
-
-enum-known-o-2 : tie.Need-enum-known-o-2
-enum-known-o-2 c = search needs
-
-enum-known-r-2 : tie.Need-enum-known-r-2
-enum-known-r-2 c = search needs
-
 returns : tie.Need-returns
 unfolding closed argThen ArgFurther afterThen AfterFurther letThen LetFurther
 returns c =
@@ -110,14 +86,14 @@ pub let-value-spec : {M : Type 1} → statement M
 let-value-spec =
     tie.close
     (tie.spec
-    argument-requires
-    enum-known-arg
-    after-argument-requires
-    enum-known-end
-    enum-known-o
-    enum-known-r
-    enum-known-o-2
-    enum-known-r-2
+    (λ c κs. search needs)
+    (λ c. search needs)
+    (λ c κs. search needs)
+    (λ c. search needs)
+    (λ c. search needs)
+    (λ c. search needs)
+    (λ c. search needs)
+    (λ c. search needs)
     returns
     returns-2
     returns-3

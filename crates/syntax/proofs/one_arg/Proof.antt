@@ -32,30 +32,6 @@ beyond e k m ys =
     ∙ ap (argThen (a .limit) s (featureCall k m ys)) (x .1)
     ∙ e .after-argument .ensures .0 (a .limit) (featureCall k m ys) (argIn s (x .0 .0))
 
-argument-requires : tie.Need-argument-requires
-argument-requires c κs = search needs
-
-enum-known-arg : tie.Need-enum-known-arg
-enum-known-arg c = search needs
-
-after-argument-requires : tie.Need-after-argument-requires
-after-argument-requires c κs = search needs
-
-enum-known-next : tie.Need-enum-known-next
-enum-known-next c = search needs
-
-enum-known-next-2 : tie.Need-enum-known-next-2
-enum-known-next-2 c = search needs
-
-enum-known-r : tie.Need-enum-known-r
-enum-known-r c = search needs
-
-enum-known-o : tie.Need-enum-known-o
-enum-known-o c = search needs
-
-enum-known-r-2 : tie.Need-enum-known-r-2
-enum-known-r-2 c = search needs
-
 returns : tie.Need-returns
 unfolding ArgFurther afterThen AfterFurther oneThen OneFurther
 returns c =
@@ -118,14 +94,14 @@ pub one-arg-spec : {M : Type 1} → statement M
 one-arg-spec =
     tie.close
     (tie.spec
-    argument-requires
-    enum-known-arg
-    after-argument-requires
-    enum-known-next
-    enum-known-next-2
-    enum-known-r
-    enum-known-o
-    enum-known-r-2
+    (λ c κs. search needs)
+    (λ c. search needs)
+    (λ c κs. search needs)
+    (λ c. search needs)
+    (λ c. search needs)
+    (λ c. search needs)
+    (λ c. search needs)
+    (λ c. search needs)
     returns
     returns-2
     returns-3

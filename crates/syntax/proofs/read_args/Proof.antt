@@ -140,9 +140,6 @@ loop-holds c =
 one-arg-requires : tie.Need-one-arg-requires Inv-loop μ-loop
 one-arg-requires c κs = c .before .before .pre
 
-enum-known-arg : tie.Need-enum-known-arg Inv-loop μ-loop
-enum-known-arg c = search needs
-
 add-count : tie.Need-add-count Inv-loop μ-loop
 unfolding OneFurther
 add-count c = let f = further (c .before) in search needs
@@ -189,9 +186,6 @@ loop-again c =
       past = omega (arith, f .0, g .past);
     }
 
-enum-known-o : tie.Need-enum-known-o Inv-loop μ-loop
-enum-known-o c = search needs
-
 returns-2 : tie.Need-returns-2 Inv-loop μ-loop
 unfolding oneThen OneFurther featureThen FeatureFurther
 returns-2 c =
@@ -231,9 +225,6 @@ returns-3 c =
       tt,
     )
 
-enum-known-r : tie.Need-enum-known-r Inv-loop μ-loop
-enum-known-r c = search needs
-
 returns-4 : tie.Need-returns-4 Inv-loop μ-loop
 unfolding oneThen featureThen FeatureFurther
 returns-4 c =
@@ -256,13 +247,13 @@ read-args-spec =
     μ-loop
     loop-holds
     one-arg-requires
-    enum-known-arg
+    (λ c. search needs)
     add-count
     returns
     loop-less
     loop-again
-    enum-known-o
+    (λ c. search needs)
     returns-2
     returns-3
-    enum-known-r
+    (λ c. search needs)
     returns-4)

@@ -24,12 +24,6 @@ beyond :
     (e .before .before .before .before .before .before .token .result .next .at) (e .token2 .result)
 beyond e = known _ _ (e .token2 .result) (e .token2 .ensures)
 
-token-requires : tie.Need-token-requires
-token-requires c κs = search needs
-
-read-args-requires : tie.Need-read-args-requires
-read-args-requires c κs = search needs
-
 returns : tie.Need-returns
 unfolding turn
 returns c =
@@ -39,9 +33,6 @@ returns c =
       (λ k. read-token (a .limit) _ (keyword k) _ _ _ r ∙ c .read-args .ensures .0 k),
       feature-further _ _ _ (c .read-args .result) (omega (arith, r .ahead, r .wide)) (c .read-args .ensures .1),
     )
-
-unexpected-requires : tie.Need-unexpected-requires
-unexpected-requires c κs = search needs
 
 returns-2 : tie.Need-returns-2
 unfolding turn featureThen FeatureFurther
@@ -53,12 +44,6 @@ returns-2 c =
           ∙ ap refusedBy (sym (c .unexpected .ensures))),
       tt,
     )
-
-token-requires-2 : tie.Need-token-requires-2
-token-requires-2 c κs = search needs
-
-unexpected-requires-2 : tie.Need-unexpected-requires-2
-unexpected-requires-2 c κs = search needs
 
 returns-3 : tie.Need-returns-3
 unfolding turn featureThen FeatureFurther
@@ -74,9 +59,6 @@ returns-3 c =
           ∙ ap refusedBy (sym (c .unexpected2 .ensures))),
       tt,
     )
-
-read-args-requires-2 : tie.Need-read-args-requires-2
-read-args-requires-2 c κs = search needs
 
 returns-4 : tie.Need-returns-4
 unfolding turn
@@ -94,13 +76,13 @@ pub read-feature-spec : {M : Type 1} → statement M
 read-feature-spec =
     tie.close
     (tie.spec
-    token-requires
-    read-args-requires
+    (λ c κs. search needs)
+    (λ c κs. search needs)
     returns
-    unexpected-requires
+    (λ c κs. search needs)
     returns-2
-    token-requires-2
-    unexpected-requires-2
+    (λ c κs. search needs)
+    (λ c κs. search needs)
     returns-3
-    read-args-requires-2
+    (λ c κs. search needs)
     returns-4)

@@ -18,12 +18,6 @@ use Rattle.syntax.proofs.read_let.Tie as tie
 here : (d : tie.After-token) → Known (now (d .before .before .args .text)) (d .before .before .args .cur .at) (d .token .result)
 here d = known _ _ (d .token .result) (d .token .ensures)
 
-token-requires : tie.Need-token-requires
-token-requires c κs = search needs
-
-unexpected-requires : tie.Need-unexpected-requires
-unexpected-requires c κs = search needs
-
 returns : tie.Need-returns
 unfolding turn letThen LetFurther
 returns c =
@@ -33,9 +27,6 @@ returns c =
           ∙ ap refusedBy (sym (c .unexpected .ensures)),
       tt,
     )
-
-let-name-requires : tie.Need-let-name-requires
-let-name-requires c κs = search needs
 
 returns-2 : tie.Need-returns-2
 unfolding turn
@@ -49,4 +40,4 @@ returns-2 c =
 
 pub read-let-spec : {M : Type 1} → statement M
 read-let-spec =
-    tie.close (tie.spec token-requires unexpected-requires returns let-name-requires returns-2)
+    tie.close (tie.spec (λ c κs. search needs) (λ c κs. search needs) returns (λ c κs. search needs) returns-2)

@@ -4,7 +4,7 @@ use Rattle.values.proofs.found_lists.Statement.{statement}
 use Rattle.values.proofs.found_lists.Tie as tie
 
 returns : tie.Need-returns
-returns c = 
+returns c =
     let n = c .before in
     let p = n .before .before in
     rw (p .before .before .found .given .1, ← p .parts-of .ensures, n .before .names-in .ensures, n .names-in2 .ensures, c .counts-in .ensures)

@@ -6,20 +6,11 @@ use Rattle.writing.proofs.Writing.{one-past, one-set}
 use Rattle.writing.proofs.put.Statement.{statement}
 use Rattle.writing.proofs.put.Tie as tie
 
-add-next : tie.Need-add-next
-add-next c = search needs
-
 returns : tie.Need-returns
 returns c = one-past (now (c .before .args .out)) (c .before .args .at) (c .before .args .byte) (c .if1 .taken)
-
-slice-write-out : tie.Need-slice-write-out
-slice-write-out c = search needs
-
-same-length : tie.Need-same-length
-same-length c = search needs
 
 returns-2 : tie.Need-returns-2
 returns-2 c = one-set (now (c .before .args .out)) (c .before .args .at) (c .before .args .byte)
 
 pub put-spec : {M : Type 1} → statement M
-put-spec = tie.close (tie.spec add-next returns slice-write-out same-length returns-2)
+put-spec = tie.close (tie.spec (λ c. search needs) returns (λ c. search needs) (λ c. search needs) returns-2)
