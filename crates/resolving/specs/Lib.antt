@@ -1,0 +1,12 @@
+pub mod Lists
+pub mod Faults
+pub mod Context
+pub mod Builtins
+pub mod Symbols
+pub mod Operands
+pub mod Effects
+pub mod Brought
+pub mod Merging
+pub mod Ground
+pub mod Resolve
+pub mod Given

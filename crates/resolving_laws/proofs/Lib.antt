@@ -1,0 +1,41 @@
+-- Lists and answers.
+pub mod Bools
+pub mod Permuted
+pub mod All
+pub mod Appended
+pub mod Clashing
+pub mod Once
+pub mod Often
+pub mod Runs
+pub mod Grouping
+pub mod Fewness
+pub mod Answering
+pub mod Passed
+-- Reordering.
+pub mod EffectLaws
+pub mod SymbolLaws
+pub mod MergingLaws
+pub mod GroundSize
+pub mod Reordering
+pub mod Places
+pub mod Entries
+pub mod FromWords
+pub mod SameLaws
+-- Rereading.
+pub mod Stands
+pub mod Standing
+pub mod MergedLaws
+pub mod Regrouped
+pub mod GroupAgain
+pub mod BroughtAgain
+pub mod MergedAgain
+pub mod Unforced
+pub mod Settling
+pub mod Reresolving
+pub mod WellParts
+pub mod WellGround
+pub mod Below
+pub mod Rereading
+pub mod GivenReadable
+-- The theorems.
+pub mod Texts
