@@ -219,17 +219,41 @@ fn or_none<T>(field: &Option<T>, form: impl Fn(&T) -> String) -> String {
 fn resolve_text(text: &str, context: &ModelContext) -> Result<String, Fault> {
     let mfl = Mfl::parse(text).map_err(Refused)?;
     let resolved = resolve::resolve(&mfl, context).map_err(Refused)?;
-    let effects: Vec<String> = resolved.covariate_effects.iter().map(effect_of).collect();
-    let effects = if effects.is_empty() {
+    let effects = resolved.covariate_effects.iter().map(effect_of).collect();
+    Ok(format!(
+        " {} {} {}",
+        hex_of(&resolved.mfl.render()),
+        or_dash(effects),
+        or_dash(notes_of(&mfl, &resolved.notes))
+    ))
+}
+
+fn or_dash(entries: Vec<String>) -> String {
+    if entries.is_empty() {
         "-".to_string()
     } else {
-        effects.join(",")
+        entries.join(",")
+    }
+}
+
+/// Notes by reason and index. A note of a dropped feature has no index, but quotes it: it is the
+/// next one that reads so, since features that read the same are dropped together.
+fn notes_of(mfl: &Mfl, notes: &[String]) -> Vec<String> {
+    let mut statements = mfl.statements.iter().enumerate();
+    let form = |note: &String| {
+        if note.starts_with("COVARIATE(..., +): ") {
+            return "1:0".to_string();
+        }
+        let quoted = |statement: &Statement| match statement {
+            Statement::Let { .. } => false,
+            Statement::Feature(feature) => note.starts_with(&format!("dropped `{feature}`: ")),
+        };
+        match statements.find(|(_, statement)| quoted(statement)) {
+            Some((index, _)) => format!("0:{index}"),
+            None => format!("unknown:{}", hex_of(note)),
+        }
     };
-    Ok(format!(
-        " {} {effects} {}",
-        hex_of(&resolved.mfl.render()),
-        resolved.notes.len()
-    ))
+    notes.iter().map(form).collect()
 }
 
 fn effect_of(spec: &CovariateEffectSpec) -> String {
@@ -303,8 +327,7 @@ fn template_of(part: &str) -> Result<Option<PkTemplate>, Fault> {
         let Some((role, variable)) = entry.split_once('=') else {
             return Err(Malformed("a binding without `=`"));
         };
-        // In lower case, as `PkTemplate::parse_line` keeps roles.
-        bindings.push((name_of(role)?.to_ascii_lowercase(), name_of(variable)?));
+        bindings.push((name_of(role)?, name_of(variable)?));
     }
     // `resolve` reads the bindings alone.
     Ok(Some(PkTemplate {
