@@ -23,6 +23,7 @@ use Rattle.reading.specs.Syntax.{opened, featureMade, letMade, closed, turn}
 use Rattle.reading.specs.Read.{readFrom, readText}
 use Rattle.reading.specs.Parts.{featureParts, partsOf}
 use Rattle.canonical.specs.Canonical.{statementShapes, textShapes}
+use Rattle.canonical.proofs.Examples as printing
 use Rattle.resolving.specs.Lists.{any, all}
 use Rattle.resolving.specs.Builtins.{builtin}
 use Rattle.resolving.specs.Symbols.{lookUp}
@@ -268,7 +269,37 @@ faults =
 abbrev pub run : Example → Outcome
 run e = outcome (resolveText 64 (e .context) (e .text))
 
-pub checked : map run (examples ++ rules ++ faults) ≡ map (λ e. e .comes-to) (examples ++ rules ++ faults)
+-- Document 01's examples, those of reading and printing and those with K, as one list.
+pub data Case : Type 0 where
+  printed : printing.Example → Case
+  resolved : Example → Case
+
+pub data Result : Type 0 where
+  ofPrinting : printing.Outcome → Result
+  ofResolving : Outcome → Result
+
+abbrev pub result : Case → Result
+result (printed e) = ofPrinting (printing.outcome (readText 64 (bytes (e .text))))
+result (resolved e) = ofResolving (run e)
+
+abbrev pub expected : Case → Result
+expected (printed e) = ofPrinting (e .comes-to)
+expected (resolved e) = ofResolving (e .comes-to)
+
+abbrev pub document : List Case
+document = map printed printing.examples ++ map resolved examples
+
+pub document-checked : map result document ≡ map expected document
+unfolding resolveText readText readFrom turn opened featureMade letMade closed
+    buildFeature featureOf keywordOf transitsOf explicit operatorOf nameOf
+    placeOf countAt rangeOf itemsOf operandOf modeList firsts modesOf countList countsOf
+    countOf sameWord find labelsOf keywords
+    scanned tokensAfter follow frontOf dots numberRest fraction classOf
+    textShapes statementShapes partsOf featureParts digitsOf digitsIn
+    builtin lookUp whole bring merged ground mergeAndGround resolve
+document-checked = refl
+
+pub checked : map run (rules ++ faults) ≡ map (λ e. e .comes-to) (rules ++ faults)
 unfolding resolveText readText readFrom turn opened featureMade letMade closed
     buildFeature featureOf keywordOf transitsOf explicit operatorOf nameOf
     placeOf countAt rangeOf itemsOf operandOf modeList firsts modesOf countList countsOf
