@@ -15,11 +15,12 @@ COVARIATES = ["WT", "SEX", "AGE", "wt", "1.5", "CL"]
 ROLES = ["cl", "v", "ka", "q", "f", "n", "v1", "v2", "v3", "q2", "q3", "mtt", "mat", "cv2", "lagtime", "alag", "tlag", "w", "s1"]
 BUILTINS = ["IIV", "PK", "PK_IIV", "PD", "PD_IIV", "ABSORPTION", "ELIMINATION", "DISTRIBUTION", "BIOAVAIL", "CONTINUOUS", "CATEGORICAL"]
 OF_COVARIATES = ["CONTINUOUS", "CATEGORICAL"]
-OF_PARAMETERS = [name for name in BUILTINS if name not in OF_COVARIATES]
+OF_ROLES = ["ABSORPTION", "ELIMINATION", "DISTRIBUTION", "BIOAVAIL"]
+OF_PARAMETERS = [name for name in BUILTINS if name not in OF_COVARIATES] + OF_ROLES
 OWN = ["A", "B", "PK_", "X-1"]
 CONTINUOUS, CATEGORICAL = ["lin", "piece_lin", "exp", "pow", "custom"], ["cat", "cat2"]
 # How often statements come: some texts have of all kinds, some are mostly of COVARIATEs, which meet then.
-MIXED = {"COVARIATE": 9, "IIV": 3, "IOV": 2, "COVARIANCE": 2, "ALLOMETRY": 1, "LET": 3, "other": 2}
+MIXED = {"COVARIATE": 9, "IIV": 3, "IOV": 2, "COVARIANCE": 2, "ALLOMETRY": 1, "LET": 4, "other": 2}
 MEETING = {"COVARIATE": 20, "IIV": 1, "LET": 1, "other": 1}
 OTHERS = ["ABSORPTION", "ELIMINATION", "PERIPHERALS", "TRANSITS", "LAGTIME", "DIRECTEFFECT", "EFFECTCOMP", "INDIRECTEFFECT", "METABOLITE"]
 
@@ -78,10 +79,13 @@ class Cases(Texts):
             usual = [("cl", "CL"), ("v", "V"), ("ka", "KA")]
             template = [usual[i] for i in range(3) if r.random() < 0.7] if r.random() < 0.4 else []
             for _ in range(r.randint(0, 4)):
-                role, variable = r.choice(ROLES), r.choice((parameters or PARAMETERS) + [r.choice(PARAMETERS), "1", "F1"])
-                template.append((role if r.random() < 0.8 else self.case(role), self.case(variable)))
+                role = r.choice(ROLES if r.random() < 0.6 else ROLES[:5])
+                variable = r.choice((parameters or PARAMETERS) + [r.choice(PARAMETERS), "1", "F1"])
+                template.append((role if r.random() < 0.6 else self.case(role), self.case(variable)))
             if r.random() < 0.3:
                 r.shuffle(template)
+            if r.random() < 0.2:
+                template = [(role.upper(), variable) for role, variable in template]
         block = None
         if r.random() < 0.75:
             block = r.choice([[("WT", 0), ("SEX", 1)], [("SEX", 1), ("WT", 0), ("AGE", 0)], []])
@@ -129,7 +133,7 @@ class Cases(Texts):
             self.pair = parameters, covariates
             return [parameters, covariates, self.forms(optional, covariates)] + ([r.choice("+*")] if r.random() < 0.4 else [])
         if keyword == "LET":
-            key = r.choice(self.defined if self.defined and r.random() < 0.3 else OWN + OF_PARAMETERS + OF_COVARIATES)
+            key = r.choice(self.defined if self.defined and r.random() < 0.4 else OWN + OF_PARAMETERS + OF_COVARIATES)
             self.defined.append(key)
             of = self.listed(self.met.covariates, COVARIATES) if key in OF_COVARIATES + ["B"] else self.listed(self.met.parameters, PARAMETERS)
             return [self.case(key), of]
