@@ -71,7 +71,7 @@ fn put_entry(text: &[u8], entry: Entry, name: Name, out: &mut [u8], at: usize) -
 }
 
 // The `,` behind an entry of a list, unless it is the last.
-fn put_comma(out: &mut [u8], at: usize, left: usize) -> usize
+pub fn put_comma(out: &mut [u8], at: usize, left: usize) -> usize
     requires { ⌜ Room at (behindEntry left) ⌝ }
     ensures { λ r. ⌜ Written (now (out .entry)) at (behindEntry left) (now (out .exit)) r ⌝ }
 {

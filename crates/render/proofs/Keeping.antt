@@ -22,7 +22,8 @@ use Rattle.canonical.specs.Print.{printText}
 use Rattle.canonical_laws.proofs.Shorter.{not-longer}
 use Rattle.forms.specs.declared.Statement as form
 use Rattle.forms.specs.Forms.{statementIn}
-use Rattle.statements.specs.Answers.{readAt, FirstFault}
+use Rattle.statements.specs.Answers.{FirstFault}
+use Rattle.statements.proofs.Keeping.{firstOnes}
 use Rattle.parts.specs.Apart.{apart}
 use Rattle.parts.specs.Meaning.{PartsFit}
 use Rattle.parts.proofs.Fitting.{statement-fits}
@@ -38,80 +39,24 @@ use Rattle.render.proofs.Pieces.{restOf, canonical-pieces}
 use Rattle.render.proofs.Loop.{canonical-short}
 use Rattle.render.proofs.Answering.{refused-answers, room-answers}
 
--- statements in front of an answer
-prepend-last : (xs : List Statement) (y : Statement) (a : Answer (List Statement)) → prependAll (xs ++ y ∷ []) a ≡ prependAll xs (prepend y a)
-prepend-last [] y a = refl
-prepend-last (x ∷ xs) y a = ap (prepend x) (prepend-last xs y a)
-
-prepend-none : (xs : List Statement) → prependAll xs (accepted []) ≡ accepted xs
-prepend-none [] = refl
-prepend-none (x ∷ xs) = ap (prepend x) (prepend-none xs)
-
-prepend-refused : (xs : List Statement) (k p : ℕ) → prependAll xs (refused k p) ≡ refused k p
-prepend-refused [] k p = refl
-prepend-refused (x ∷ xs) k p = ap (prepend x) (prepend-refused xs k p)
-
--- the statements that the first so many forms stand for
-abbrev pub firstOnes : List ℕ → ℕ → List form.Statement → List Statement
-firstOnes s n forms = map (statementIn s) (take n forms)
-
--- So many statements were read, and their forms are kept.
-pub record Keeping (limit : ℕ) (s : List ℕ) (forms : List form.Statement) (n cur : ℕ) : Type 0 where
-  pub read : readAt limit s 0 between 0 ≡ prependAll (firstOnes s n forms) (readAt limit s n between cur)
-  pub few : n ≤ cur
-  pub held : n ≤ length forms
-
-pub none-kept : (limit : ℕ) (s : List ℕ) (forms : List form.Statement) → Keeping limit s forms 0 0
-none-kept limit s forms = record { read = refl; few = omega arith; held = omega arith }
-
-module _ {limit : ℕ} {s : List ℕ} {forms : List form.Statement} {n cur : ℕ} (g : Keeping limit s forms n cur) where
-  -- one more
-  pub one-kept :
-      (f : form.Statement) (p : ℕ)
-      → readAt limit s n between cur ≡ prepend (statementIn s f) (readAt limit s (suc n) between p)
-      → n < length forms
-      → cur < p
-      → Keeping limit s (set forms n f) (n + 1) p
-  one-kept f p e h q =
-      subst (λ (k : ℕ). Keeping limit s (set forms n f) k p) (sym (add-one n))
-      (record {
-        read =
-            g .read
-            ∙ ap (prependAll (firstOnes s n forms)) e
-            ∙ sym (prepend-last (firstOnes s n forms) (statementIn s f) _)
-            ∙ ap (λ (l : List Statement). prependAll l (readAt limit s (suc n) between p))
-            (sym (ap (map (statementIn s)) (take-suc-set forms n f h) ∙ map-append (statementIn s) (take n forms) (f ∷ [])));
-        few = omega (arith, g .few);
-        held = omega (arith, length-set forms n f);
-      })
-
-  -- a refusal is the text's
-  pub refused-then : (k p : ℕ) → readAt limit s n between cur ≡ refused k p → readAt limit s 0 between 0 ≡ refused k p
-  refused-then k p e = g .read ∙ ap (prependAll (firstOnes s n forms)) e ∙ prepend-refused (firstOnes s n forms) k p
-
-  -- the end: these are all
-  pub accepted-then : length s ≤ 16384 → readAt limit s n between cur ≡ accepted [] → readText limit s ≡ accepted (firstOnes s n forms)
-  accepted-then h e =
-      accepted-text limit s (firstOnes s n forms) h (g .read ∙ ap (prependAll (firstOnes s n forms)) e ∙ prepend-none (firstOnes s n forms))
-
 -- Of the statements that are kept so many are printed, and the others are left.
 pub record Putting (limit : ℕ) (s before now : List ℕ) (forms : List form.Statement) (n i at : ℕ) : Type 0 where
-  pub read : readText limit s ≡ accepted (firstOnes s n forms)
+  pub read : readText limit s ≡ accepted (firstOnes (statementIn s) n forms)
   pub well : all (wellFormed limit) (map (statementIn s) (slice i n forms)) ≡ true
-  pub gone : Going before 0 (canonical (firstOnes s n forms)) now at (restOf i (map (statementIn s) (slice i n forms)))
+  pub gone : Going before 0 (canonical (firstOnes (statementIn s) n forms)) now at (restOf i (map (statementIn s) (slice i n forms)))
   pub held : n ≤ length forms
   pub most : i ≤ n
 
 pub none-put :
     (limit : ℕ) (s before : List ℕ) (forms : List form.Statement) (n : ℕ)
-    → readText limit s ≡ accepted (firstOnes s n forms)
+    → readText limit s ≡ accepted (firstOnes (statementIn s) n forms)
     → n ≤ length forms
     → Putting limit s before before forms n 0 0
 none-put limit s before forms n e h =
     record {
       read = e;
-      well = text-well-formed limit s (firstOnes s n forms) e;
-      gone = told (canonical-pieces (firstOnes s n forms)) (going before 0 (canonical (firstOnes s n forms)));
+      well = text-well-formed limit s (firstOnes (statementIn s) n forms) e;
+      gone = told (canonical-pieces (firstOnes (statementIn s) n forms)) (going before 0 (canonical (firstOnes (statementIn s) n forms)));
       held = h;
       most = omega arith;
     }
@@ -128,7 +73,7 @@ module _ {limit : ℕ} {s before now : List ℕ} {forms : List form.Statement} {
     well-left = sym (ap (all (wellFormed limit)) left) ∙ g .well
 
     gone-left :
-        Going before 0 (canonical (firstOnes s n forms)) now at
+        Going before 0 (canonical (firstOnes (statementIn s) n forms)) now at
         (pieceOf i (statementIn s this) ++ restOf (suc i) (map (statementIn s) (slice (suc i) n forms)))
     gone-left = told (ap (restOf i) left) (g .gone)
 
@@ -136,7 +81,7 @@ module _ {limit : ℕ} {s before now : List ℕ} {forms : List form.Statement} {
     this-fits = statement-fits limit s this (and-left (wellFormed limit (statementIn s this)) _ well-left)
 
     pub this-room : Room at (pieceOf i (statementIn s (getD forms i d)))
-    this-room = room-first (pieceOf i (statementIn s this)) _ (canonical-short limit s (firstOnes s n forms) (g .read)) gone-left
+    this-room = room-first (pieceOf i (statementIn s this)) _ (canonical-short limit s (firstOnes (statementIn s) n forms) (g .read)) gone-left
 
     pub one-put :
         {now' : List ℕ} {at' : ℕ}
@@ -159,8 +104,8 @@ module _ {limit : ℕ} {s before now : List ℕ} {forms : List form.Statement} {
       let z : restOf i (map (statementIn s) (slice i n forms)) ≡ [] =
       ap (λ (k : ℕ). restOf i (map (statementIn s) (slice k n forms))) e
       ∙ ap (λ (l : List form.Statement). restOf i (map (statementIn s) l)) (slice-empty n forms) in
-      room-answers limit s before now (firstOnes s n forms) (g .read) at
-      (omega (arith, not-longer limit s (firstOnes s n forms) (g .read), q))
+      room-answers limit s before now (firstOnes (statementIn s) n forms) (g .read) at
+      (omega (arith, not-longer limit s (firstOnes (statementIn s) n forms) (g .read), q))
       (no-more (told z (g .gone)))
 
 -- where nothing was printed, the buffer is as it was, and what is printed next is the answer

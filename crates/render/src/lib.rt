@@ -28,7 +28,7 @@ pub enum Printed {
 }
 
 // The `;` before every statement but the first.
-fn put_joint(n: usize, out: &mut [u8], at: usize) -> usize
+pub fn put_joint(n: usize, out: &mut [u8], at: usize) -> usize
     requires { ⌜ Room at (jointOf n) ⌝ }
     ensures { λ r. ⌜ Written (now (out .entry)) at (jointOf n) (now (out .exit)) r ⌝ }
 {

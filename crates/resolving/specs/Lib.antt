@@ -10,3 +10,5 @@ pub mod Merging
 pub mod Ground
 pub mod Resolve
 pub mod Given
+pub mod Handed
+pub mod Call

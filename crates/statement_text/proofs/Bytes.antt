@@ -34,7 +34,7 @@ use Rattle.parts.proofs.Meaning.{taken}
 use Rattle.statement_text.specs.Bytes.{headOf, behind, shapesIn, someShapes, bytesOf}
 
 -- a keyword with its `?` and its `(`, the arguments, and the `)`
-call-bytes :
+pub call-bytes :
     (k : List ℕ) (m : Bool) (xs : List (List Shape))
     → spellAll (callShapes k m xs) ≡ headOf k m ++ (spellAll (argumentShapes xs) ++ bytes ")")
 call-bytes k m xs =
@@ -43,7 +43,7 @@ call-bytes k m xs =
     ∙ simp append-assoc
 
 -- an argument, and those behind it
-first-argument :
+pub first-argument :
     (a : List Shape) (bs : List (List Shape)) → spellAll (argumentShapes (a ∷ bs)) ≡ spellAll a ++ spellAll (behind bs)
 first-argument a [] = sym (append-nil (spellAll a))
 first-argument a (b ∷ bs) = spell-append a (sign "," ∷ argumentShapes (b ∷ bs))

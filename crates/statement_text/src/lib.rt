@@ -120,7 +120,7 @@ fn put_question(out: &mut [u8], at: usize, optional: bool) -> usize
 }
 
 // A keyword, its `?` and its `(`.
-fn put_head(keys: &Keywords, place: usize, optional: bool, out: &mut [u8], at: usize) -> usize
+pub fn put_head(keys: &Keywords, place: usize, optional: bool, out: &mut [u8], at: usize) -> usize
     requires { ⌜ (now keys ≡ keywordTable) × (place < length keywords) × Room at (headOf (getD keywords place []) optional) ⌝ }
     ensures { λ r. ⌜ Written (now (out .entry)) at (headOf (getD keywords place []) optional) (now (out .exit)) r ⌝ }
 {

@@ -2,3 +2,4 @@ pub mod Whole
 pub mod Texts
 pub mod Indexes
 pub mod Found
+pub mod Keeping

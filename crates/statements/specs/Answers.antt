@@ -68,10 +68,10 @@ nextThen limit s n (nextRead.Statement f c) = prepend (statementIn s f) (readAt 
 nextThen limit s n nextRead.End = accepted []
 nextThen limit s n (nextRead.Refused r) = refused (r .number) (r .place)
 
-unfoldable pub NextFurther : List ℕ → ℕ → NextRead → Type 0
-NextFurther s o (nextRead.Statement f c) = (o < c .at) × (c .at ≤ length s)
-NextFurther s o nextRead.End = Unit {0}
-NextFurther s o (nextRead.Refused r) = Unit {0}
+unfoldable pub NextFurther : List ℕ → ℕ → ℕ → NextRead → Type 0
+NextFurther s n o (nextRead.Statement f c) = (o < c .at) × (c .at ≤ length s) × (n < 256)
+NextFurther s n o nextRead.End = Unit {0}
+NextFurther s n o (nextRead.Refused r) = Unit {0}
 
 -- what the refusal of a text's statements is for the whole text, where that is not too long
 abbrev pub FirstFault : List ℕ → Refusal → Refusal → Type 0

@@ -212,7 +212,7 @@ pub fn next_statement(
 ) -> NextRead
     requires { ⌜ (now classes ≡ classTable) × (now labels ≡ labelTable) × (now keys ≡ keywordTable) × (n ≤ cur .at) ⌝ }
     ensures { λ r. ⌜ readAt limit (now (text .entry)) n between (cur .at) ≡ nextThen limit (now (text .entry)) n r ⌝ }
-    ensures { λ r. ⌜ NextFurther (now (text .entry)) (cur .at) r ⌝ }
+    ensures { λ r. ⌜ NextFurther (now (text .entry)) n (cur .at) r ⌝ }
 {
     let token = first_token(text, classes, cur);
     if token.kind == tokens::END {

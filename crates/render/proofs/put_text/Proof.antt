@@ -46,7 +46,8 @@ forward : (c : tie.After-form Inv-loop μ-loop)
 unfolding NextFurther
 forward c =
     let l = c .before .before .before in
-    subst (NextFurther (now (l .before .before .before .before .args .text)) (l .loop .cur .at)) (c .form .given .1) (c .before .before .next-statement .ensures .1)
+    let f = subst (NextFurther (now (l .before .before .before .before .args .text)) (l .loop .n) (l .loop .cur .at)) (c .form .given .1) (c .before .before .next-statement .ensures .1) in
+    (f .0, f .1)
 
 put-next-requires : tie.Need-put-next-requires Inv-loop μ-loop
 put-next-requires c κs =

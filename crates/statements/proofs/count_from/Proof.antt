@@ -43,7 +43,7 @@ add-n c =
     let a = l .before .before .before .args in
     let s = now (a .text) in
     let g = l .loop .inv in
-    let f = subst (NextFurther s (l .loop .cur .at)) (x .1) (d .next-statement .ensures .1) in
+    let f = subst (NextFurther s (l .loop .n) (l .loop .cur .at)) (x .1) (d .next-statement .ensures .1) in
     omega (arith, f .0, f .1, g .few)
 
 loop-less : tie.Need-loop-less Inv-loop μ-loop
@@ -55,7 +55,7 @@ loop-less c =
     let a = l .before .before .before .args in
     let s = now (a .text) in
     let g = l .loop .inv in
-    let f = subst (NextFurther s (l .loop .cur .at)) (x .1) (d .next-statement .ensures .1) in
+    let f = subst (NextFurther s (l .loop .n) (l .loop .cur .at)) (x .1) (d .next-statement .ensures .1) in
     omega (arith, f .0, f .1)
 
 loop-again : tie.Need-loop-again Inv-loop μ-loop
@@ -67,7 +67,7 @@ loop-again c =
     let a = l .before .before .before .args in
     let s = now (a .text) in
     let g = l .loop .inv in
-    let f = subst (NextFurther s (l .loop .cur .at)) (x .1) (d .next-statement .ensures .1) in
+    let f = subst (NextFurther s (l .loop .n) (l .loop .cur .at)) (x .1) (d .next-statement .ensures .1) in
     record {
       same =
           g .same

@@ -152,7 +152,7 @@ returns-4 c =
           ∙ b
           ∙ ap (λ (k : ℕ). readAt (a .limit) s k between (y .0 .0 .at)) (add-one (a .n))
           ),
-      (omega (arith, f .ahead, r .ahead, r .wide, g .0, h .0 (g .1)), h .1),
+      (omega (arith, f .ahead, r .ahead, r .wide, g .0, h .0 (g .1)), h .1, m .before .before .before .before .if2 .left),
     )
 
 returns-5 : tie.Need-returns-5

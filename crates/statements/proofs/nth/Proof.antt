@@ -48,8 +48,8 @@ further :
     (d : tie.After-known-told Inv-loop μ-loop)
     → let l = d .before .before .before .before in
     let x = d .before .form .given .0 in
-    NextFurther (now (l .before .before .before .args .text)) (l .loop .cur .at) (nextRead.Statement (x .0) (x .1 .0))
-further d = subst (NextFurther _ _) (d .before .form .given .1) (d .before .before .before .next-statement .ensures .1)
+    NextFurther (now (l .before .before .before .args .text)) (l .loop .n) (l .loop .cur .at) (nextRead.Statement (x .0) (x .1 .0))
+further d = subst (NextFurther _ _ _) (d .before .form .given .1) (d .before .before .before .next-statement .ensures .1)
 
 -- what is sought behind it, after so many and with one kept
 abbrev Behind : tie.After-known-told Inv-loop μ-loop → ℕ → Statement → Type 0

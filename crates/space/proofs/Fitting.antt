@@ -1,0 +1,74 @@
+-- The statements of an accepted text fit: each is well formed, and no longer than the canonical text, which is no longer than the text.
+-- Assumes nothing.
+use mathlib.Core.Path.{_≡_, _∙_, ap, subst}
+use mathlib.Core.Bool.{true}
+use mathlib.Core.List.{List, [], _∷_, map}
+use Prim.Native.Nat.{ℕ, zero, suc, _≤_, _<_}
+use native.Mathlib.Nat.{le-of-suc-le-suc, not-suc-le-zero}
+use native.Mathlib.Omega.{arith}
+use lib.ListN.{length, getD, take, length-map, List·getD-map}
+use lib.Seq.{getD-take, length-take-le}
+use Rattle.tokens.specs.Spelling.{spellAll}
+use Rattle.token_laws.proofs.Tests.{all-at}
+use Rattle.reading.specs.Statement.{Statement}
+use Rattle.reading.specs.Answer.{accepted}
+use Rattle.reading.specs.Read.{readText}
+use Rattle.reading_laws.specs.WellFormed.{wellFormed}
+use Rattle.reading_laws.proofs.Joining.{accepted-short}
+use Rattle.reading_laws.proofs.WellRead.{text-well-formed}
+use Rattle.canonical.specs.Canonical.{statementShapes, textShapes, canonical}
+use Rattle.canonical_laws.specs.Shorter.{widths, statementWidths}
+use Rattle.canonical_laws.proofs.Shorter.{not-longer}
+use Rattle.canonical_laws.proofs.ShorterLists.{spelled-length, text-shapes-width}
+use Rattle.space.specs.declared.Form.{Form}
+use Rattle.space.specs.declared.Space.{Space}
+use Rattle.space.specs.Space.{formIn, statementsIn, Whole}
+use Rattle.space.specs.Fit.{Fit, FitAll}
+
+-- each statement's bytes, with the `;` behind it, are among those of all
+one-width : (ss : List Statement) (k : ℕ) (d : Statement) → k < length ss → widths (statementShapes (getD ss k d)) < statementWidths ss
+one-width [] k d h = absurd (not-suc-le-zero h)
+one-width (s ∷ ss) zero d h = omega arith
+one-width (s ∷ ss) (suc k) d h = omega (arith, one-width ss k d (le-of-suc-le-suc h))
+
+-- a statement is not longer than the canonical text that it stands in
+pub one-shorter :
+    (ss : List Statement) (k : ℕ) (d : Statement)
+    → k < length ss
+    → length (spellAll (statementShapes (getD ss k d))) ≤ length (canonical ss)
+one-shorter ss k d h =
+    omega (
+      arith,
+      spelled-length (statementShapes (getD ss k d)),
+      one-width ss k d h,
+      text-shapes-width ss,
+      spelled-length (textShapes ss),
+    )
+
+module _ (limit : ℕ) (s : List ℕ) (r : Space) (w : Whole r) (e : readText limit s ≡ accepted (statementsIn s r)) where
+  -- the statement at an index
+  this-one : (d : Form) (k : ℕ) → k < r .count → getD (statementsIn s r) k (formIn s d) ≡ formIn s (getD (r .forms) k d)
+  this-one d k h =
+      List·getD-map (formIn s) (take (r .count) (r .forms)) k d ∙ ap (formIn s) (getD-take (r .count) (r .forms) k d h)
+
+  as-many : length (statementsIn s r) ≡ r .count
+  as-many =
+      length-map (take (r .count) (r .forms)) (formIn s) ∙ length-take-le (r .count) (r .forms) (omega (arith, w .wide, w .few))
+
+  pub space-fits : FitAll s r
+  space-fits d k h =
+      let q : k < length (statementsIn s r) = omega (arith, h, as-many) in
+      record {
+        limit = limit;
+        well =
+            subst (λ (x : Statement). wellFormed limit x ≡ true) (this-one d k h)
+            (all-at (wellFormed limit) (statementsIn s r) k (formIn s d) (text-well-formed limit s (statementsIn s r) e) q);
+        short =
+            subst (λ (x : Statement). length (spellAll (statementShapes x)) ≤ 16384) (this-one d k h)
+            (omega (
+              arith,
+              one-shorter (statementsIn s r) k (formIn s d) q,
+              not-longer limit s (statementsIn s r) e,
+              accepted-short limit s (statementsIn s r) e,
+            ));
+      }
