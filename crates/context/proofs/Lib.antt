@@ -1,0 +1,7 @@
+pub mod Naming
+pub mod Pairs
+pub mod Equal
+pub mod Heads
+pub mod Places
+pub mod Meaning
+pub mod Examples

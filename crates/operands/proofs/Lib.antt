@@ -1,0 +1,3 @@
+pub mod Holding
+pub mod Going
+pub mod Sources

@@ -1,0 +1,282 @@
+// An operand as indexes of the context's entries. "Each resolved list keeps first occurrences. Each name in one, written or brought by a symbol
+// or `*`, is held by 15 to the list that written names are held to there."
+ghost use mathlib.Core.Path.{_≡_};
+ghost use Prim.Native.Nat.{_+_, _≤_, _<_};
+ghost use lib.ListN.{length, take};
+ghost use Rattle.tokens.specs.Class.{classTable};
+ghost use Rattle.reading.specs.Answer.{accepted};
+ghost use Rattle.resolving.specs.Lists.{placeIn, sameBytes};
+ghost use Rattle.resolving.specs.Operands.{held};
+ghost use Rattle.resolving.specs.Handed.{handedContext};
+ghost use Rattle.parts.specs.Meaning.{OperandFits};
+ghost use Rattle.context.specs.Lists.{namesIn, Sound, Stands, foundAs, covariatesOf};
+ghost use Rattle.symbols.specs.Lets.{LetsFit};
+ghost use Rattle.symbols.specs.Sources.{sourceList, SourceFits, LookedFits};
+ghost use Rattle.symbols.specs.Named.{runOf, spelledIn, spellings, Usable};
+ghost use Rattle.operands.specs.Picked.{chosen, standsIn, withIndex, Whole, Picks, heldAs};
+ghost use Rattle.operands.specs.Entries.{entriesAs, StandsFor, parameterNames, covariateNames, parametersIn, covariatesIn};
+use context::Found;
+use context::Layout;
+use context::Names;
+use forms::Name;
+use forms::Operand;
+use symbols::Looked;
+use symbols::Named;
+use symbols::Of;
+use symbols::Source;
+use tokens::Classes;
+
+// Indexes: how many, and which.
+pub struct Picked {
+    pub count: usize,
+    pub indexes: [u8; 64],
+}
+
+// Indexes, or that a name is missing.
+pub struct Held {
+    pub missing: bool,
+    pub list: Picked,
+}
+
+// The faults of an operand by their numbers.
+pub const NO_FAULT: u8 = 0;
+
+pub const UNKNOWN_SYMBOL: u8 = 14;
+
+pub const UNKNOWN_NAME: u8 = 15;
+
+// The indexes of an operand, or why there are none.
+pub struct Entries {
+    pub fault: u8,
+    pub list: Picked,
+}
+
+fn none_picked() -> Picked
+    ensures { λ r. ⌜ Whole r × (r .count ≡ 0) ⌝ }
+{
+    Picked {
+        count: 0,
+        indexes: [0; 64],
+    }
+}
+
+// Whether an index stands among the first so many.
+fn among(indexes: &[u8; 64], count: usize, index: u8) -> bool
+    requires { ⌜ (count ≤ 64) × (length (now indexes) ≡ 64) ⌝ }
+    ensures { λ r. ⌜ r ≡ standsIn (take count (now (indexes .entry))) index ⌝ }
+{
+    let mut k = 0;
+    while k < count {
+        if indexes[k] == index {
+            return true;
+        }
+        k += 1;
+    }
+    false
+}
+
+// One index more, unless it stands there already.
+fn with_index(list: Picked, index: u8) -> Picked
+    requires { ⌜ Whole list × (list .count < 64) ⌝ }
+    ensures { λ r. ⌜ Whole r × (chosen r ≡ withIndex (chosen list) index) × (r .count ≤ list .count + 1) ⌝ }
+{
+    let mut indexes = list.indexes;
+    let count = list.count;
+    if among(&indexes, count, index) {
+        return list;
+    }
+    indexes[count] = index;
+    Picked {
+        count: count + 1,
+        indexes,
+    }
+}
+
+// The place of a name of the text or of the block in a list.
+fn place_of(text: &[u8], block: &[u8], lists: &[u32], of: Of, name: Name, target: Names) -> Found
+    requires { ⌜ Sound (now block) (now lists) target ⌝ }
+    ensures { λ r. ⌜ r ≡ foundAs (placeIn (sameBytes (spelledIn (runOf (now (text .entry)) (now (block .entry)) of) name))
+        (namesIn (now (block .entry)) (now (lists .entry)) target)) ⌝ }
+{
+    match of {
+        Of::Text => context::index_of(block, lists, target, symbols::spelling(text, name)),
+        Of::Block => context::index_of(block, lists, target, symbols::spelling(block, name)),
+    }
+}
+
+// Names held to a list, or that one is not there.
+pub fn hold(text: &[u8], block: &[u8], lists: &[u32], named: Named, target: Names) -> Held
+    requires { ⌜ Usable (now text) (now block) named × Sound (now block) (now lists) target ⌝ }
+    ensures { λ r. ⌜ Picks (target .count) (r .list)
+        × (heldAs r ≡ held (namesIn (now (block .entry)) (now (lists .entry)) target)
+        (accepted (spellings (now (text .entry)) (now (block .entry)) named))) ⌝ }
+{
+    let mut picked = none_picked();
+    let mut i = 0;
+    while i < named.count {
+        let name = named.pairs[i];
+        match place_of(text, block, lists, named.of, name, target) {
+            Found::Place(place) => {
+                picked = with_index(picked, place as u8);
+                i += 1;
+            }
+            Found::Nothing => {
+                return Held {
+                    missing: true,
+                    list: picked,
+                };
+            }
+        }
+    }
+    Held {
+        missing: false,
+        list: picked,
+    }
+}
+
+// The names of a source held to a list.
+fn entries_of(
+    text: &[u8],
+    classes: &Classes,
+    block: &[u8],
+    lists: &[u32],
+    layout: Layout,
+    source: Source,
+    target: Names,
+) -> Entries
+    requires { ⌜ (now classes ≡ classTable) × Stands (now block) (now lists) layout × SourceFits (now text) source
+        × Sound (now block) (now lists) target ⌝ }
+    ensures { λ r. ⌜ Picks (target .count) (r .list)
+        × (entriesAs r ≡ held (namesIn (now (block .entry)) (now (lists .entry)) target)
+        (accepted (sourceList (handedContext (now (block .entry)) (now (lists .entry))) (now (text .entry)) source))) ⌝ }
+{
+    let named = symbols::names_of(text, classes, block, lists, layout, source);
+    let held = hold(text, block, lists, named, target);
+    let list = held.list;
+    if held.missing {
+        return Entries {
+            fault: UNKNOWN_NAME,
+            list,
+        };
+    }
+    Entries {
+        fault: NO_FAULT,
+        list,
+    }
+}
+
+fn unknown_symbol() -> Entries
+    ensures { λ r. ⌜ (r .fault ≡ 14) × Whole (r .list) × (r .list .count ≡ 0) ⌝ }
+{
+    Entries {
+        fault: UNKNOWN_SYMBOL,
+        list: none_picked(),
+    }
+}
+
+// What an operand of parameters stands for: "Parameter `*` looks up PK for COVARIATE and IIV, and IIV for IOV and COVARIANCE".
+fn parameter_source(
+    text: &[u8],
+    lets: &[u32],
+    n: usize,
+    layout: Layout,
+    star: &[u8],
+    operand: Operand,
+) -> Looked
+    requires { ⌜ LetsFit (now text) (now lets) n × OperandFits (now text) operand ⌝ }
+    ensures { λ r. ⌜ LookedFits (now (text .entry)) r
+        × StandsFor (now (text .entry)) layout r (parameterNames (now (text .entry)) (now (lets .entry)) n (now (star .entry)) operand) ⌝ }
+{
+    match operand {
+        Operand::Wildcard => symbols::look_up(text, lets, n, layout, star),
+        Operand::Symbol(name) => symbols::look_up(
+            text,
+            lets,
+            n,
+            layout,
+            symbols::spelling(text, name),
+        ),
+        Operand::Names(items) => Looked::Names(Source::Values(items)),
+    }
+}
+
+// What an operand of covariates stands for: "Covariate `*` is every declared covariate, or the data columns where there is no block."
+fn covariate_source(text: &[u8], lets: &[u32], n: usize, layout: Layout, operand: Operand) -> Looked
+    requires { ⌜ LetsFit (now text) (now lets) n × OperandFits (now text) operand ⌝ }
+    ensures { λ r. ⌜ LookedFits (now (text .entry)) r
+        × StandsFor (now (text .entry)) layout r (covariateNames (now (text .entry)) (now (lets .entry)) n operand) ⌝ }
+{
+    match operand {
+        Operand::Wildcard => Looked::Names(Source::Covariates),
+        Operand::Symbol(name) => symbols::look_up(
+            text,
+            lets,
+            n,
+            layout,
+            symbols::spelling(text, name),
+        ),
+        Operand::Names(items) => Looked::Names(Source::Values(items)),
+    }
+}
+
+// The parameters of an operand, as indexes of the context's.
+pub fn parameters_of(
+    text: &[u8],
+    classes: &Classes,
+    block: &[u8],
+    lists: &[u32],
+    layout: Layout,
+    lets: &[u32],
+    n: usize,
+    star: &[u8],
+    operand: Operand,
+) -> Entries
+    requires { ⌜ (now classes ≡ classTable) × Stands (now block) (now lists) layout × LetsFit (now text) (now lets) n
+        × OperandFits (now text) operand ⌝ }
+    ensures { λ r. ⌜ Picks (layout .parameters .count) (r .list)
+        × (entriesAs r ≡ parametersIn (now (text .entry)) (now (lets .entry)) n (now (block .entry)) (now (lists .entry))
+        (now (star .entry)) operand) ⌝ }
+{
+    let Looked::Names(source) = parameter_source(text, lets, n, layout, star, operand) else {
+        return unknown_symbol();
+    };
+    entries_of(
+        text,
+        classes,
+        block,
+        lists,
+        layout,
+        source,
+        layout.parameters,
+    )
+}
+
+// The covariates of an operand, as indexes of the list that covariates are held to.
+pub fn covariates_of(
+    text: &[u8],
+    classes: &Classes,
+    block: &[u8],
+    lists: &[u32],
+    layout: Layout,
+    lets: &[u32],
+    n: usize,
+    operand: Operand,
+) -> Entries
+    requires { ⌜ (now classes ≡ classTable) × Stands (now block) (now lists) layout × LetsFit (now text) (now lets) n
+        × OperandFits (now text) operand ⌝ }
+    ensures { λ r. ⌜ Picks (covariatesOf layout .count) (r .list)
+        × (entriesAs r ≡ covariatesIn (now (text .entry)) (now (lets .entry)) n (now (block .entry)) (now (lists .entry)) operand) ⌝ }
+{
+    let Looked::Names(source) = covariate_source(text, lets, n, layout, operand) else {
+        return unknown_symbol();
+    };
+    entries_of(
+        text,
+        classes,
+        block,
+        lists,
+        layout,
+        source,
+        context::covariates(layout),
+    )
+}

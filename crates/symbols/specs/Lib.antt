@@ -1,0 +1,4 @@
+pub mod Lets
+pub mod Sources
+pub mod Named
+pub mod Brings
