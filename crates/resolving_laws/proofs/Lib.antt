@@ -37,5 +37,7 @@ pub mod WellGround
 pub mod Below
 pub mod Rereading
 pub mod GivenReadable
+-- One run of effects.
+pub mod FlatLaws
 -- The theorems.
 pub mod Texts

@@ -1,0 +1,16 @@
+pub mod Mapped
+pub mod Scans
+pub mod Fields
+pub mod FlagLaws
+pub mod TableLaws
+pub mod SiftLaws
+pub mod PassLaws
+pub mod ForcedLaws
+pub mod Means
+pub mod Settling
+pub mod GroupLaws
+pub mod FormLaws
+pub mod GroupLists
+pub mod IndexLaws
+pub mod GroupMeans
+pub mod Answers
