@@ -1,0 +1,5 @@
+pub mod Wholes
+pub mod Names
+pub mod Groups
+pub mod Features
+pub mod Sizes

@@ -1,0 +1,3 @@
+pub mod Whole
+pub mod Listed
+pub mod Groups

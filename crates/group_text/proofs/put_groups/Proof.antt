@@ -1,0 +1,195 @@
+-- `group_text::put_groups` meets its contract. The invariant: what is left to be written are the statements of the groups that are left.
+-- Assumes nothing.
+use Prim.Native.Nat.{ℕ, _+_, _≤_, _<_, _-_}
+use mathlib.Core.Path.{_≡_, ap}
+use mathlib.Core.List.{List, _++_, map}
+use native.Mathlib.Omega.{arith}
+use lib.ListN.{length, take}
+use denote.Ref.{now}
+use borrow.Author.Needs.{needs}
+use Rattle.render.specs.Text.{jointOf}
+use Rattle.render.proofs.Pieces.{restOf}
+use Rattle.resolving.specs.Context.{Context}
+use Rattle.resolving.specs.Effects.{Effect}
+use Rattle.resolving.specs.Ground.{groundEffects}
+use Rattle.resolving.specs.Handed.{handedContext}
+use Rattle.writing.specs.Written.{Room}
+use Rattle.writing.proofs.Going.{Going, going, told, further, no-more, as-long, room-first}
+use Rattle.merging.specs.Packing.{effectOf}
+use Rattle.group_text.proofs.Groups.{
+  leftFrom,
+  groupBytes,
+  group-next,
+  none-next,
+  group-entered,
+  groups-room,
+  parameters-many,
+  covariates-many,
+  parameters-short,
+  covariates-short,
+}
+use Rattle.group_text.proofs.put_groups.Statement.{statement}
+use Rattle.group_text.proofs.put_groups.Tie as tie
+
+abbrev Inv-loop : tie.InvT-loop
+Inv-loop block classes lists labels keys layout work count groups before out₀ at j₀ next₀ out j next =
+    (j ≤ groups)
+    × Going out₀ at (restOf before (groundEffects (handedContext block lists) (map effectOf (take count work)))) out next
+    (leftFrom (handedContext block lists) (map effectOf (take count work)) (before + j) j)
+
+abbrev μ-loop : tie.MeasureT-loop
+μ-loop block classes lists labels keys layout work count groups before out₀ at j₀ next₀ out j next = groups - j
+
+-- the context that the names are of, and the effects whose groups are printed
+abbrev contextOf : tie.Start Inv-loop μ-loop → Context
+contextOf s = handedContext (now (s .args .block)) (now (s .args .lists))
+
+abbrev effectsOf : tie.Start Inv-loop μ-loop → List Effect
+effectsOf s = map effectOf (take (s .args .count) (now (s .args .work)))
+
+loop-holds : tie.Need-loop-holds Inv-loop μ-loop
+loop-holds c =
+    let s = c .before .before .before .before in (
+      omega arith,
+      told (ap (λ (n : ℕ). leftFrom (contextOf s) (effectsOf s) n 0) (omega arith)) (going _ _ _),
+    )
+
+-- there are at most 256 groups
+index-below : (t : tie.In-loop Inv-loop μ-loop) → t .before .loop .j < 256
+index-below t =
+    let l = t .before in
+    omega (arith, t .loop-test .taken, l .before .before .before .before .before .pre .4 .stand .few)
+
+-- the statement of the group, and what is left behind it
+group-ahead :
+    (t : tie.In-loop Inv-loop μ-loop)
+    → let l = t .before in
+    let s = l .before .before .before .before .before in
+    leftFrom (contextOf s) (effectsOf s) (s .args .before + l .loop .j) (l .loop .j)
+    ≡ jointOf (s .args .before + l .loop .j)
+    ++ (groupBytes (contextOf s) (now (s .args .work)) (l .loop .j)
+    ++ leftFrom (contextOf s) (effectsOf s) (s .args .before + (l .loop .j + 1)) (l .loop .j + 1))
+group-ahead t =
+    let l = t .before in
+    let s = l .before .before .before .before .before in
+    group-next (contextOf s) (now (s .args .work)) (s .args .count) (s .args .groups) (s .pre .4) (s .args .before) (l .loop .j)
+    (t .loop-test .taken)
+
+room-for-all : (s : tie.Start Inv-loop μ-loop) → Room (s .args .at) (restOf (s .args .before) (groundEffects (contextOf s) (effectsOf s)))
+room-for-all s =
+    groups-room (contextOf s) (now (s .args .work)) (s .args .count) (s .args .groups) (s .pre .4)
+    (parameters-short (now (s .args .block)) (now (s .args .lists)) (s .args .layout) (s .pre .3))
+    (covariates-short (now (s .args .block)) (now (s .args .lists)) (s .args .layout) (s .pre .3))
+    (s .args .before) (s .args .at) (s .pre .6)
+
+mul-group : tie.Need-mul-group Inv-loop μ-loop
+mul-group c = omega (arith, index-below c)
+
+add-group : tie.Need-add-group Inv-loop μ-loop
+add-group c = omega (arith, index-below c)
+
+mul-group-2 : tie.Need-mul-group-2 Inv-loop μ-loop
+mul-group-2 c = omega (arith, index-below c, c .before .before .before .before .before .before .pre .4 .room)
+
+shared-slice-read-group : tie.Need-shared-slice-read-group Inv-loop μ-loop
+shared-slice-read-group c =
+    omega (arith, index-below (c .before), c .before .before .before .before .before .before .before .pre .4 .room)
+
+mul-packed : tie.Need-mul-packed Inv-loop μ-loop
+mul-packed c = omega (arith, index-below (c .before))
+
+add-packed : tie.Need-add-packed Inv-loop μ-loop
+add-packed c = omega (arith, index-below (c .before))
+
+mul-packed-2 : tie.Need-mul-packed-2 Inv-loop μ-loop
+mul-packed-2 c = omega (arith, index-below (c .before), c .before .before .before .before .before .before .before .pre .4 .room)
+
+shared-slice-read-packed : tie.Need-shared-slice-read-packed Inv-loop μ-loop
+shared-slice-read-packed c =
+    omega (arith, index-below (c .before .before), c .before .before .before .before .before .before .before .before .pre .4 .room)
+
+add-put-joint : tie.Need-add-put-joint Inv-loop μ-loop
+add-put-joint c =
+    let t = c .before .before in
+    omega (arith, index-below t, t .before .before .before .before .before .before .pre .5)
+
+put-joint-requires : tie.Need-put-joint-requires Inv-loop μ-loop
+put-joint-requires c κs =
+    let t = c .before .before .before in
+    let l = t .before in
+    let s = l .before .before .before .before .before in
+    room-first (jointOf (s .args .before + l .loop .j)) _ (room-for-all s) (told (group-ahead t) (l .loop .inv .1))
+
+put-group-requires : tie.Need-put-group-requires Inv-loop μ-loop
+put-group-requires c κs =
+    let p = c .before .before .before in
+    let t = p .before .before .before .before in
+    let l = t .before in
+    let s = l .before .before .before .before .before in
+    let e = group-entered (contextOf s) (now (s .args .work)) (s .args .count) (s .args .groups) (s .pre .4) (l .loop .j) (t .loop-test .taken) in (
+      s .pre .0,
+      s .pre .1,
+      s .pre .2,
+      s .pre .3,
+      omega (arith, e .0, parameters-many (now (s .args .block)) (now (s .args .lists)) (s .args .layout) (s .pre .3)),
+      omega (arith, e .1, covariates-many (now (s .args .block)) (now (s .args .lists)) (s .args .layout) (s .pre .3)),
+      room-first (groupBytes (contextOf s) (now (s .args .work)) (l .loop .j)) _ (room-for-all s)
+          (further (told (group-ahead t) (l .loop .inv .1)) (p .put-joint .ensures)),
+    )
+
+add-j : tie.Need-add-j Inv-loop μ-loop
+add-j c =
+    let t = c .before .before .before .before .before .before .before .before .before .before in
+    omega (arith, index-below t)
+
+loop-less : tie.Need-loop-less Inv-loop μ-loop
+loop-less c =
+    let t = c .before .before .before .before .before .before .before .before .before .before in
+    omega (arith, t .loop-test .taken)
+
+loop-again : tie.Need-loop-again Inv-loop μ-loop
+loop-again c =
+    let w = c .before .before in
+    let p = w .before .before .before .before in
+    let t = p .before .before .before .before in
+    let j = told (group-ahead t) (t .before .loop .inv .1) in
+    (omega (arith, t .loop-test .taken), further (further j (p .put-joint .ensures)) (w .put-group .ensures))
+
+same-length : tie.Need-same-length Inv-loop μ-loop
+same-length c = as-long (c .before .loop .inv .1)
+
+returns : tie.Need-returns Inv-loop μ-loop
+returns c =
+    let l = c .before in
+    let s = l .before .before .before .before .before in
+    no-more
+    (told
+    (none-next (contextOf s) (now (s .args .work)) (s .args .count) (s .args .groups) (s .pre .4) (s .args .before + l .loop .j) (l .loop .j)
+    (omega (arith, c .loop-test .left)))
+    (l .loop .inv .1))
+
+pub put-groups-spec : {M : Type 1} → statement M
+put-groups-spec =
+    tie.close
+    (tie.spec
+    Inv-loop
+    μ-loop
+    loop-holds
+    mul-group
+    add-group
+    mul-group-2
+    shared-slice-read-group
+    mul-packed
+    add-packed
+    mul-packed-2
+    shared-slice-read-packed
+    add-put-joint
+    put-joint-requires
+    (λ c. search needs)
+    (λ c. search needs)
+    put-group-requires
+    add-j
+    loop-less
+    loop-again
+    same-length
+    returns)

@@ -1,0 +1,65 @@
+// The ground COVARIATEs that stand for groups of effects.
+ghost use mathlib.Core.Path.{_≡_};
+ghost use mathlib.Core.List.{map};
+ghost use Prim.Native.Nat.{_≤_};
+ghost use lib.ListN.{take};
+ghost use Rattle.tokens.specs.Class.{classTable};
+ghost use Rattle.labels.specs.Table.{labelTable, keywordTable};
+ghost use Rattle.writing.specs.Written.{Written};
+ghost use Rattle.render.proofs.Pieces.{restOf};
+ghost use Rattle.resolving.specs.Ground.{groundEffects};
+ghost use Rattle.resolving.specs.Handed.{handedContext};
+ghost use Rattle.context.specs.Lists.{Stands};
+ghost use Rattle.merging.specs.Packing.{effectOf};
+ghost use Rattle.group_text.specs.Known.{GroupsKnown};
+use context::Layout;
+use labels::Keywords;
+use labels::Labels;
+use tokens::Classes;
+
+// The ground COVARIATEs of the groups of so many effects, where other statements stay before them.
+pub fn put_groups(
+    block: &[u8],
+    classes: &Classes,
+    lists: &[u32],
+    labels: &Labels,
+    keys: &Keywords,
+    layout: Layout,
+    work: &[u32],
+    count: usize,
+    groups: usize,
+    before: usize,
+    out: &mut [u8],
+    at: usize,
+) -> usize
+    requires { ⌜ (now classes ≡ classTable) × (now labels ≡ labelTable) × (now keys ≡ keywordTable) × Stands (now block) (now lists) layout
+        × GroupsKnown (handedContext (now block) (now lists)) (now work) count groups × (before ≤ 256) × (at ≤ 4294967296) ⌝ }
+    ensures { λ r. ⌜ Written (now (out .entry)) at
+        (restOf before (groundEffects (handedContext (now (block .entry)) (now (lists .entry))) (map effectOf (take count (now (work .entry))))))
+        (now (out .exit)) r ⌝ }
+{
+    let mut j = 0;
+    let mut next = at;
+    while j < groups {
+        let group = work[6144 + 2 * j];
+        let packed = work[6145 + 2 * j];
+        next = render::put_joint(before + j, out, next);
+        next = grounding::put_group(
+            block,
+            classes,
+            lists,
+            labels,
+            keys,
+            layout,
+            (group / 2048 % 64) as usize,
+            (group / 32 % 64) as usize,
+            packed,
+            group / 2 % 2,
+            group % 2,
+            out,
+            next,
+        );
+        j += 1;
+    }
+    next
+}
