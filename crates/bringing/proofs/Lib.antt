@@ -1,0 +1,4 @@
+pub mod TermLaws
+pub mod Variables
+pub mod Staying
+pub mod Covariates

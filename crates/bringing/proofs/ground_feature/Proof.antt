@@ -1,0 +1,180 @@
+-- `bringing::ground_feature` meets its contract, arm by arm.
+-- Assumes nothing.
+use Prim.Native.Nat.{ℕ, _≤_}
+use mathlib.Core.Path.{_≡_, refl, _∙_, ap, sym, subst}
+use mathlib.Core.Bool.{Bool, false}
+use mathlib.Core.List.{List}
+use native.Mathlib.Omega.{arith}
+use lib.ListN.{length}
+use denote.Ref.{now}
+use borrow.Author.Needs.{needs}
+use Rattle.labels.specs.Label.{keywords}
+use Rattle.forms.specs.declared.Feature as forms
+use Rattle.forms.specs.declared.Feature.the-variants as form
+use Rattle.forms.specs.declared.Statement.the-variants as statement
+use Rattle.parts.specs.Apart.{apart, featureApart}
+use Rattle.parts.specs.Meaning.{PartsFit}
+use Rattle.bringing.specs.Stays.{Short, Stood, StayAs}
+use Rattle.bringing.proofs.Variables.{piece-room}
+use Rattle.bringing.proofs.Staying.{
+  wholeOf,
+  whole-short,
+  whole-stood,
+  comes,
+  iiv-stay,
+  iov-stay,
+  covariance-stay,
+  allometry-whole,
+  allometry-fault,
+  other-whole,
+}
+use Rattle.bringing.proofs.ground_feature.Statement.{statement as the-statement}
+use Rattle.bringing.proofs.ground_feature.Tie as tie
+
+-- a feature of the arm, in place of what was matched
+module _ (s : tie.Start) {g : forms.Feature} (e : s .args .feature ≡ g) where
+  fits : PartsFit (now (s .args .text)) (apart (statement.Feature g))
+  fits = subst (λ (f : forms.Feature). PartsFit (now (s .args .text)) (apart (statement.Feature f))) e (s .pre .5)
+
+  short : Short (now (s .args .text)) g
+  short = subst (Short (now (s .args .text))) e (s .pre .6)
+
+is-covariate-requires : tie.Need-is-covariate-requires
+is-covariate-requires c κs = c .before .before .before .before .before .before .before .before .pre .3
+
+put-whole-requires : tie.Need-put-whole-requires
+put-whole-requires c κs =
+    let x = c .before .before .before .before .feature in
+    let s = c .before .before .before .before .before .before .before .before .before .before .before in
+    let f = form.Allometry (x .given .0 .0) (x .given .0 .1 .0) in (
+      s .pre .0,
+      s .pre .1,
+      s .pre .2,
+      fits s (x .given .1),
+      piece-room (s .args .before) (wholeOf (now (s .args .text)) f) (whole-short (now (s .args .text)) f (short s (x .given .1))) (s .args .at) (s .pre .8),
+    )
+
+returns : tie.Need-returns
+unfolding StayAs
+returns c =
+    let p = c .before .before in
+    let t = p .before .before in
+    let i = t .before in
+    let x = i .before .before .feature in
+    let s = i .before .before .before .before .before .before .before .before .before in
+    rw (x .given .1)
+    (whole-stood (now (s .args .text)) (form.Allometry (x .given .0 .0) (x .given .0 .1 .0)) (s .args .before) (short s (x .given .1))
+    (allometry-whole (now (s .args .text)) (now (s .args .block)) (now (s .args .lists)) (now (s .args .lets)) (s .args .n) (x .given .0 .0) (x .given .0 .1 .0)
+    (sym (t .if1 .taken) ∙ i .is-covariate .ensures))
+    (p .put-whole .ensures))
+
+returns-2 : tie.Need-returns-2
+unfolding StayAs
+returns-2 c =
+    let i = c .before in
+    let x = i .before .before .feature in
+    let s = i .before .before .before .before .before .before .before .before .before in (
+      rw (x .given .1)
+          (allometry-fault (now (s .args .text)) (now (s .args .block)) (now (s .args .lists)) (now (s .args .lets)) (s .args .n) (x .given .0 .0) (x .given .0 .1 .0)
+          (sym (c .if1 .left) ∙ i .is-covariate .ensures)),
+      refl,
+    )
+
+stay-variables-requires : tie.Need-stay-variables-requires
+unfolding keywords apart featureApart
+stay-variables-requires c κs =
+    let x = c .before .before .before .feature2 in
+    let s = c .before .before .before .before .before .before .before .before .before .before in
+    (s .pre .0, s .pre .1, s .pre .2, s .pre .3, s .pre .4, fits s (x .given .1) .first, omega arith, s .pre .8)
+
+stay-variables-requires-2 : tie.Need-stay-variables-requires-2
+unfolding keywords apart featureApart
+stay-variables-requires-2 c κs =
+    let x = c .before .before .before .feature3 in
+    let s = c .before .before .before .before .before .before .before .before .before .before in
+    (s .pre .0, s .pre .1, s .pre .2, s .pre .3, s .pre .4, fits s (x .given .1) .first, omega arith, s .pre .8)
+
+stay-variables-requires-3 : tie.Need-stay-variables-requires-3
+unfolding keywords apart featureApart
+stay-variables-requires-3 c κs =
+    let x = c .before .before .before .feature4 in
+    let s = c .before .before .before .before .before .before .before .before .before .before in
+    (s .pre .0, s .pre .1, s .pre .2, s .pre .3, s .pre .4, fits s (x .given .1) .second, omega arith, s .pre .8)
+
+put-whole-requires-2 : tie.Need-put-whole-requires-2
+put-whole-requires-2 c κs =
+    let s = c .before .before .before .before .before .before .before in
+    let f = s .args .feature in (
+      s .pre .0,
+      s .pre .1,
+      s .pre .2,
+      s .pre .5,
+      piece-room (s .args .before) (wholeOf (now (s .args .text)) f) (whole-short (now (s .args .text)) f (s .pre .6)) (s .args .at) (s .pre .8),
+    )
+
+returns-3 : tie.Need-returns-3
+returns-3 c =
+    let v = c .before .before in
+    let x = v .before .before .before .before .feature2 in
+    let s = v .before .before .before .before .before .before .before .before .before .before .before in
+    rw (x .given .1)
+    (iiv-stay (now (s .args .text)) (now (s .args .block)) (now (s .args .lists)) (now (s .args .lets)) (s .args .n) (s .args .before) (now (s .args .out))
+    (s .args .at) _ (x .given .0 .0) (x .given .0 .1 .0) (x .given .0 .1 .1 .0) (v .stay-variables .result) (v .stay-variables .ensures))
+
+returns-4 : tie.Need-returns-4
+returns-4 c =
+    let v = c .before .before in
+    let x = v .before .before .before .before .feature3 in
+    let s = v .before .before .before .before .before .before .before .before .before .before .before in
+    rw (x .given .1)
+    (iov-stay (now (s .args .text)) (now (s .args .block)) (now (s .args .lists)) (now (s .args .lets)) (s .args .n) (s .args .before) (now (s .args .out))
+    (s .args .at) _ (x .given .0 .0) (x .given .0 .1 .0) (x .given .0 .1 .1 .0) (v .stay-variables2 .result) (v .stay-variables2 .ensures))
+
+returns-5 : tie.Need-returns-5
+returns-5 c =
+    let v = c .before .before in
+    let x = v .before .before .before .before .feature4 in
+    let s = v .before .before .before .before .before .before .before .before .before .before .before in
+    rw (x .given .1)
+    (covariance-stay (now (s .args .text)) (now (s .args .block)) (now (s .args .lists)) (now (s .args .lets)) (s .args .n) (s .args .before) (now (s .args .out))
+    (s .args .at) _ (x .given .0 .0) (x .given .0 .1 .0) (x .given .0 .1 .1 .0) (v .stay-variables3 .result) (v .stay-variables3 .ensures))
+
+returns-6 : tie.Need-returns-6
+unfolding StayAs
+returns-6 c =
+    let p = c .before .before in
+    let k = p .before .before in
+    let s = k .before .before .before .before .before .before in
+    let f = s .args .feature in
+    whole-stood (now (s .args .text)) f (s .args .before) (s .pre .6)
+    (other-whole (now (s .args .text)) (now (s .args .block)) (now (s .args .lists)) (now (s .args .lets)) (s .args .n) f (k .match .keys5) (s .pre .7))
+    (p .put-whole2 .ensures)
+
+pub ground-feature-spec : {M : Type 1} → the-statement M
+ground-feature-spec =
+    tie.close
+    (tie.spec
+    (λ c. search needs)
+    is-covariate-requires
+    put-whole-requires
+    (λ c. search needs)
+    returns
+    (λ c. search needs)
+    (λ c. search needs)
+    stay-variables-requires
+    (λ c. search needs)
+    (λ c. search needs)
+    stay-variables-requires-2
+    (λ c. search needs)
+    (λ c. search needs)
+    stay-variables-requires-3
+    put-whole-requires-2
+    returns-2
+    (λ c. search needs)
+    returns-3
+    (λ c. search needs)
+    returns-4
+    (λ c. search needs)
+    returns-5
+    (λ c. search needs)
+    returns-6)

@@ -1,0 +1,373 @@
+// What statements bring: a ground statement, effects, or nothing but the note that it is dropped; or a fault.
+ghost use mathlib.Core.Path.{_≡_};
+ghost use mathlib.Core.Bool.{true, false};
+ghost use mathlib.Core.List.{List, [], _++_};
+ghost use Prim.Native.Nat.{ℕ, _+_, _*_, _≤_, _<_};
+ghost use lib.ListN.{length, take};
+ghost use Rattle.tokens.specs.Class.{classTable};
+ghost use Rattle.tokens.specs.Spelling.{spellAll};
+ghost use Rattle.labels.specs.Label.{keywords};
+ghost use Rattle.labels.specs.Table.{labelTable, keywordTable};
+ghost use Rattle.canonical.specs.Canonical.{takenShapes};
+ghost use Rattle.forms.specs.Forms.{modesIn, opAs, operandIn, featureIn, statementIn};
+ghost use Rattle.reading.specs.Statement.{Covariate};
+ghost use Rattle.forms.specs.Items.{nameIn};
+ghost use Rattle.parts.specs.Apart.{apart};
+ghost use Rattle.parts.specs.Meaning.{PartsFit, OperandFits, partsIn};
+ghost use Rattle.writing.specs.Written.{Room, Written};
+ghost use Rattle.render.specs.Text.{jointOf};
+ghost use Rattle.resolving.specs.Lists.{placeIn, sameBytes};
+ghost use Rattle.resolving.specs.Context.{covariates as covariates·spec};
+ghost use Rattle.resolving.specs.Effects.{operatorNumber, optionalNumber};
+ghost use Rattle.resolving.specs.Brought.{isExplicit, bringFeature};
+ghost use Rattle.resolving.specs.Handed.{handedContext};
+ghost use Rattle.context.specs.Lists.{Stands};
+ghost use Rattle.symbols.specs.Lets.{LetsFit};
+ghost use Rattle.operands.specs.Entries.{meaningIn};
+ghost use Rattle.grounding.specs.Whole.{allWhole};
+ghost use Rattle.terms.specs.Terms.{headNumber};
+ghost use Rattle.bringing.specs.Stays.{isCovariate, Short, StayAs, VariablesAs, isSome};
+ghost use Rattle.bringing.specs.Terms.{SmallForms, CovariateAs};
+use context::Found;
+use context::Layout;
+use forms::CovariateOp;
+use forms::Feature;
+use forms::Modes;
+use forms::Name;
+use forms::Operand;
+use forms::Statement;
+use labels::Family;
+use labels::Keywords;
+use labels::Labels;
+use tokens::Classes;
+
+// The fault of an effect against its covariate's kind.
+pub const WRONG_KIND: u8 = 16;
+
+// What a feature comes to: its ground statement or its terms were written, and this is the index behind them; it is dropped; or a fault.
+pub enum Stay {
+    Next(usize),
+    Dropped,
+    Refused(u8),
+}
+
+// A statement with its modes made whole, behind the `;` where others stand before it.
+fn put_whole(
+    text: &[u8],
+    classes: &Classes,
+    labels: &Labels,
+    keys: &Keywords,
+    feature: Feature,
+    before: usize,
+    out: &mut [u8],
+    at: usize,
+) -> usize
+    requires { ⌜ (now classes ≡ classTable) × (now labels ≡ labelTable) × (now keys ≡ keywordTable)
+        × PartsFit (now text) (apart (Statement.Feature feature))
+        × Room at (jointOf before ++ spellAll (takenShapes (allWhole (partsIn (now text) (apart (Statement.Feature feature)))))) ⌝ }
+    ensures { λ r. ⌜ Written (now (out .entry)) at
+        (jointOf before ++ spellAll (takenShapes (allWhole (partsIn (now (text .entry)) (apart (Statement.Feature feature))))))
+        (now (out .exit)) r ⌝ }
+{
+    let next = render::put_joint(before, out, at);
+    let parts = grounding::whole_parts(parts::parts_of(Statement::Feature(feature)));
+    statement_text::put_parts(text, classes, labels, keys, parts, out, next)
+}
+
+// Whether a name is a covariate of the model.
+fn is_covariate(text: &[u8], block: &[u8], lists: &[u32], layout: Layout, name: Name) -> bool
+    requires { ⌜ Stands (now block) (now lists) layout ⌝ }
+    ensures { λ r. ⌜ r ≡ isSome (placeIn (sameBytes (nameIn (now (text .entry)) name .spelling))
+        (covariates·spec (handedContext (now (block .entry)) (now (lists .entry))))) ⌝ }
+{
+    match context::index_of(
+        block,
+        lists,
+        context::covariates(layout),
+        symbols::spelling(text, name),
+    ) {
+        Found::Place(_) => true,
+        Found::Nothing => false,
+    }
+}
+
+// A statement of parameters and modes: dropped where the parameters are fewer than `least`.
+fn stay_variables(
+    text: &[u8],
+    classes: &Classes,
+    labels: &Labels,
+    keys: &Keywords,
+    block: &[u8],
+    lists: &[u32],
+    layout: Layout,
+    lets: &[u32],
+    n: usize,
+    star: &[u8],
+    least: usize,
+    keyword: usize,
+    optional: bool,
+    parameters: Operand,
+    family: Family,
+    modes: Modes,
+    named: bool,
+    before: usize,
+    out: &mut [u8],
+    at: usize,
+) -> Stay
+    requires { ⌜ (now classes ≡ classTable) × (now labels ≡ labelTable) × (now keys ≡ keywordTable) × Stands (now block) (now lists) layout
+        × LetsFit (now text) (now lets) n × OperandFits (now text) parameters × (keyword < length keywords) × (at ≤ 4294967296) ⌝ }
+    ensures { λ r. ⌜ VariablesAs (now (text .entry)) (now (block .entry)) (now (lists .entry)) (now (lets .entry)) n (now (star .entry)) least
+        keyword optional parameters family modes named before (now (out .entry)) at (now (out .exit)) r ⌝ }
+{
+    let entries = operands::parameters_of(
+        text,
+        classes,
+        block,
+        lists,
+        layout,
+        lets,
+        n,
+        star,
+        parameters,
+    );
+    if entries.fault != operands::NO_FAULT {
+        return Stay::Refused(entries.fault);
+    }
+    let list = entries.list;
+    if list.count < least {
+        return Stay::Dropped;
+    }
+    let next = render::put_joint(before, out, at);
+    let whole = grounding::whole_modes(family, modes);
+    Stay::Next(grounding::put_variables(
+        block,
+        lists,
+        labels,
+        keys,
+        keyword,
+        optional,
+        layout.parameters,
+        list,
+        family,
+        whole,
+        named,
+        out,
+        next,
+    ))
+}
+
+// What a feature other than COVARIATE comes to, where so many statements stay before it.
+pub fn ground_feature(
+    text: &[u8],
+    classes: &Classes,
+    labels: &Labels,
+    keys: &Keywords,
+    block: &[u8],
+    lists: &[u32],
+    layout: Layout,
+    lets: &[u32],
+    n: usize,
+    feature: Feature,
+    before: usize,
+    out: &mut [u8],
+    at: usize,
+) -> Stay
+    requires { ⌜ (now classes ≡ classTable) × (now labels ≡ labelTable) × (now keys ≡ keywordTable) × Stands (now block) (now lists) layout
+        × LetsFit (now text) (now lets) n × PartsFit (now text) (apart (Statement.Feature feature)) × Short (now text) feature
+        × (isCovariate feature ≡ false) × (at ≤ 4294967296) ⌝ }
+    ensures { λ r. ⌜ StayAs (bringFeature (handedContext (now (block .entry)) (now (lists .entry)))
+        (meaningIn (now (text .entry)) (now (lets .entry)) n (handedContext (now (block .entry)) (now (lists .entry))))
+        (featureIn (now (text .entry)) feature)) before (now (out .entry)) at (now (out .exit)) r ⌝ }
+{
+    match feature {
+        Feature::Allometry { covariate, .. } => {
+            if is_covariate(text, block, lists, layout, covariate) {
+                return Stay::Next(put_whole(text, classes, labels, keys, feature, before, out, at));
+            }
+            Stay::Refused(operands::UNKNOWN_NAME)
+        }
+        Feature::Iiv {
+            optional,
+            parameters,
+            effects,
+        } => stay_variables(
+            text,
+            classes,
+            labels,
+            keys,
+            block,
+            lists,
+            layout,
+            lets,
+            n,
+            b"PK",
+            1,
+            11,
+            optional,
+            parameters,
+            Family::VariabilityEffect,
+            effects,
+            true,
+            before,
+            out,
+            at,
+        ),
+        Feature::Iov {
+            optional,
+            parameters,
+            effects,
+        } => stay_variables(
+            text,
+            classes,
+            labels,
+            keys,
+            block,
+            lists,
+            layout,
+            lets,
+            n,
+            b"IIV",
+            1,
+            12,
+            optional,
+            parameters,
+            Family::VariabilityEffect,
+            effects,
+            true,
+            before,
+            out,
+            at,
+        ),
+        Feature::Covariance {
+            optional,
+            level,
+            parameters,
+        } => stay_variables(
+            text,
+            classes,
+            labels,
+            keys,
+            block,
+            lists,
+            layout,
+            lets,
+            n,
+            b"IIV",
+            2,
+            13,
+            optional,
+            parameters,
+            Family::VariabilityLevel,
+            level,
+            false,
+            before,
+            out,
+            at,
+        ),
+        _ => Stay::Next(put_whole(text, classes, labels, keys, feature, before, out, at)),
+    }
+}
+
+fn is_named(operand: Operand) -> bool
+    ensures { λ r. ⌜ ((s : List ℕ) → r ≡ isExplicit (operandIn s operand)) ⌝ }
+{
+    match operand {
+        Operand::Wildcard => false,
+        Operand::Symbol(_) => false,
+        Operand::Names(_) => true,
+    }
+}
+
+fn mark_of(is: bool) -> u32
+    ensures { λ r. ⌜ r ≡ optionalNumber is ⌝ }
+{
+    if is {
+        return 1;
+    }
+    0
+}
+
+fn sign_of(op: CovariateOp) -> u32
+    ensures { λ r. ⌜ r ≡ operatorNumber (opAs op) ⌝ }
+{
+    match op {
+        CovariateOp::Multiply => 0,
+        CovariateOp::Add => 1,
+    }
+}
+
+// What all terms of a COVARIATE have in common: its index, whether it is explicit, its operator and its `?`.
+fn head_of(index: usize, explicit: bool, op: CovariateOp, optional: bool) -> u32
+    requires { ⌜ index < 256 ⌝ }
+    ensures { λ r. ⌜ r ≡ headNumber index explicit (opAs op) optional ⌝ }
+{
+    index as u32 * 262144 + mark_of(explicit) * 131072 + sign_of(op) * 2 + mark_of(optional)
+}
+
+// What a COVARIATE brings: its terms were put behind the others; it is dropped; or a fault.
+pub fn bring_covariate(
+    text: &[u8],
+    classes: &Classes,
+    block: &[u8],
+    lists: &[u32],
+    layout: Layout,
+    lets: &[u32],
+    n: usize,
+    index: usize,
+    optional: bool,
+    parameters: Operand,
+    covariates: Operand,
+    effects: Modes,
+    op: CovariateOp,
+    terms: &mut [u32],
+    at: usize,
+) -> Stay
+    requires { ⌜ (now classes ≡ classTable) × Stands (now block) (now lists) layout × LetsFit (now text) (now lets) n
+        × OperandFits (now text) parameters × OperandFits (now text) covariates × SmallForms (modesIn effects) × (index < 256) × (at ≤ 4294967296) ⌝ }
+    ensures { λ r. ⌜ CovariateAs (bringFeature (handedContext (now (block .entry)) (now (lists .entry)))
+        (meaningIn (now (text .entry)) (now (lets .entry)) n (handedContext (now (block .entry)) (now (lists .entry))))
+        (Covariate optional (operandIn (now (text .entry)) parameters) (operandIn (now (text .entry)) covariates) (modesIn effects) (opAs op)))
+        index (now (terms .entry)) at (now (terms .exit)) r ⌝ }
+{
+    let own = operands::parameters_of(
+        text,
+        classes,
+        block,
+        lists,
+        layout,
+        lets,
+        n,
+        b"PK",
+        parameters,
+    );
+    if own.fault != operands::NO_FAULT {
+        return Stay::Refused(own.fault);
+    }
+    let others = operands::covariates_of(text, classes, block, lists, layout, lets, n, covariates);
+    if others.fault != operands::NO_FAULT {
+        return Stay::Refused(others.fault);
+    }
+    let first = own.list;
+    let second = others.list;
+    if first.count == 0 {
+        return Stay::Dropped;
+    }
+    if second.count == 0 {
+        return Stay::Dropped;
+    }
+    if terms::any_against(block, lists, layout, second, effects) {
+        return Stay::Refused(WRONG_KIND);
+    }
+    let head = head_of(index, is_named(parameters), op, optional);
+    Stay::Next(terms::put_terms(
+        block,
+        lists,
+        layout,
+        first,
+        second,
+        effects,
+        head,
+        terms,
+        at,
+    ))
+}

@@ -1,0 +1,299 @@
+-- What the statements so far bring, and one more.
+-- Assumes nothing.
+use Prim.Native.Nat.{ℕ, zero, suc, _+_, _*_, _≤_, _<_}
+use native.Mathlib.Nat.{add-zero, zero-add}
+use native.Mathlib.Numerals.{add-one}
+use native.Mathlib.Omega.{arith}
+use mathlib.Core.Path.{_≡_, refl, _∙_, ap, ap₂, sym, subst}
+use mathlib.Core.List.{List, [], _∷_, _++_, map, map-append, append-assoc, append-nil}
+use lib.ListN.{length, length-append, getD}
+use lib.Seq.{slice, slice-cons, slice-empty}
+use Rattle.reading.specs.Answer.{Answer, accepted, refused, _>>=_}
+use Rattle.reading.specs.Statement.{Statement}
+use Rattle.writing.specs.Written.{Written}
+use Rattle.writing.proofs.Writing.{nothing-written, written-on}
+use Rattle.writing.proofs.Going.{Going, going, told, further, no-more}
+use Rattle.render.specs.Text.{pieceOf}
+use Rattle.render.proofs.Pieces.{restOf}
+use Rattle.resolving.specs.Lists.{gather}
+use Rattle.resolving.specs.Brought.{Brought, defining, dropped, stays, brings, atIndex, eachFrom}
+use Rattle.resolving.specs.Ground.{staying}
+use Rattle.resolving_laws.specs.Flat.{Term, term, termsFrom}
+use Rattle.merging.specs.Packing.{termOf}
+use Rattle.space.specs.declared.Form.{Form}
+use Rattle.brought.specs.declared.Tally.{Tally}
+use Rattle.brought.specs.declared.Put.{Put}
+use Rattle.brought.specs.Tallies.{noteOf, notesFrom, Adds, Added}
+use Rattle.brought.specs.Printed.{PutOne}
+
+-- One more at the end of a list.
+
+module _ (b : Brought) where
+  terms-last : (i : ℕ) (bs : List Brought) → termsFrom i (bs ++ b ∷ []) ≡ termsFrom i bs ++ termsFrom (i + length bs) (b ∷ [])
+  terms-last i [] = ap (λ (k : ℕ). termsFrom k (b ∷ [])) (sym (add-zero i))
+  terms-last i (defining ∷ bs) = terms-last (suc i) bs ∙ later i bs
+    where
+      later : (i : ℕ) (bs : List Brought)
+          → termsFrom (suc i) bs ++ termsFrom (suc i + length bs) (b ∷ []) ≡ termsFrom (suc i) bs ++ termsFrom (i + suc (length bs)) (b ∷ [])
+      later i bs = let e : suc i + length bs ≡ i + suc (length bs) = omega arith in rw e refl
+  terms-last i (dropped ∷ bs) =
+      let e : suc i + length bs ≡ i + suc (length bs) = omega arith in
+      terms-last (suc i) bs ∙ ap (λ (k : ℕ). termsFrom (suc i) bs ++ termsFrom k (b ∷ [])) e
+  terms-last i (stays f ∷ bs) =
+      let e : suc i + length bs ≡ i + suc (length bs) = omega arith in
+      terms-last (suc i) bs ∙ ap (λ (k : ℕ). termsFrom (suc i) bs ++ termsFrom k (b ∷ [])) e
+  terms-last i (brings x es ∷ bs) =
+      let e : suc i + length bs ≡ i + suc (length bs) = omega arith in
+      ap (λ (l : List Term). map (term i x) es ++ l)
+      (terms-last (suc i) bs ∙ ap (λ (k : ℕ). termsFrom (suc i) bs ++ termsFrom k (b ∷ [])) e)
+      ∙ sym (append-assoc (map (term i x) es) (termsFrom (suc i) bs) (termsFrom (i + suc (length bs)) (b ∷ [])))
+
+  notes-last : (i : ℕ) (bs : List Brought) → notesFrom i (bs ++ b ∷ []) ≡ notesFrom i bs ++ noteOf (i + length bs) b
+  notes-last i [] = append-nil (noteOf i b) ∙ ap (λ (k : ℕ). noteOf k b) (sym (add-zero i))
+  notes-last i (x ∷ bs) =
+      let e : suc i + length bs ≡ i + suc (length bs) = omega arith in
+      ap (λ (l : List ℕ). noteOf i x ++ l) (notes-last (suc i) bs ∙ ap (λ (k : ℕ). notesFrom (suc i) bs ++ noteOf k b) e)
+      ∙ sym (append-assoc (noteOf i x) (notesFrom (suc i) bs) (noteOf (i + suc (length bs)) b))
+
+  pub staying-last : (bs : List Brought) → gather staying (bs ++ b ∷ []) ≡ gather staying bs ++ staying b
+  staying-last [] = append-nil (staying b)
+  staying-last (x ∷ bs) =
+      ap (λ (l : List Statement). staying x ++ l) (staying-last bs) ∙ sym (append-assoc (staying x) (gather staying bs) (staying b))
+
+-- the pieces of statements one after the other
+pub rest-append : (n : ℕ) (xs ys : List Statement) → restOf n (xs ++ ys) ≡ restOf n xs ++ restOf (n + length xs) ys
+rest-append n [] ys = ap (λ (k : ℕ). restOf k ys) (sym (add-zero n))
+rest-append n (x ∷ xs) ys =
+    let e : suc n + length xs ≡ n + suc (length xs) = omega arith in
+    ap (λ (l : List ℕ). pieceOf n x ++ l) (rest-append (suc n) xs ys ∙ ap (λ (k : ℕ). restOf (suc n) xs ++ restOf k ys) e)
+    ∙ sym (append-assoc (pieceOf n x) (restOf (suc n) xs) (restOf (n + suc (length xs)) ys))
+
+abbrev pub nothing : Tally
+nothing = record { terms = 0; stays = 0; ground = 0; dropped = 0 }
+
+pub none-added : (ts ds : List ℕ) → Added [] ts ds nothing ts ds
+none-added ts ds = record {
+  numbers = [];
+  mean = refl;
+  terms = nothing-written ts 0;
+  dropped = nothing-written ds 0;
+  stays = refl;
+  ground = refl;
+}
+
+pub one-added :
+    {bs : List Brought} {b : Brought} {i : ℕ} {ts₀ ds₀ ts ds ts' ds' : List ℕ} {t u : Tally}
+    → Added bs ts₀ ds₀ t ts ds
+    → length bs ≡ i
+    → Adds b i t ts ds u ts' ds'
+    → Added (bs ++ b ∷ []) ts₀ ds₀ u ts' ds'
+one-added {bs} {b} {i} {ts₀} {ds₀} {ts} {ds} {ts'} {ds'} {t} {u} a e d =
+    let k : 0 + length bs ≡ i = omega (arith, e) in
+    record {
+      numbers = a .numbers ++ d .numbers;
+      mean =
+          map-append termOf (a .numbers) (d .numbers)
+          ∙ ap₂ (λ (x y : List Term). x ++ y) (a .mean) (d .mean)
+          ∙ ap (λ (j : ℕ). termsFrom 0 bs ++ termsFrom j (b ∷ [])) (sym k)
+          ∙ sym (terms-last b 0 bs);
+      terms = written-on (a .terms) (d .terms);
+      dropped =
+          subst (λ (l : List ℕ). Written ds₀ 0 l ds' (u .dropped))
+          (ap (λ (j : ℕ). notesFrom 0 bs ++ noteOf j b) (sym k) ∙ sym (notes-last b 0 bs))
+          (written-on (a .dropped) (d .dropped));
+      stays = omega (arith, a .stays, d .stays, length-append (gather staying bs) (staying b), ap length (staying-last b bs));
+      ground =
+          let m : t .stays ≡ 0 + length (gather staying bs) = omega (arith, a .stays) in
+          omega (
+            arith,
+            a .ground,
+            d .ground,
+            ap (λ (j : ℕ). length (restOf j (staying b))) m,
+            length-append (restOf 0 (gather staying bs)) (restOf (0 + length (gather staying bs)) (staying b)),
+            ap length (rest-append 0 (gather staying bs) (staying b)),
+            ap (λ (l : List Statement). length (restOf 0 l)) (staying-last b bs),
+          );
+    }
+
+-- Statements taken in order.
+
+abbrev pub after : {B : Type 0} → List B → Answer (List B) → Answer (List B)
+after bs a = a >>= (λ cs. accepted (bs ++ cs))
+
+module _ {A B : Type 0} (f : A → Answer B) where
+  pub after-none : (a : Answer (List B)) → a ≡ after [] a
+  after-none (accepted cs) = refl
+  after-none (refused k p) = refl
+
+  -- one more is taken
+  pub after-one : (bs : List B) (i : ℕ) (x : A) (xs : List A) (b : B) → f x ≡ accepted b
+      → after bs (eachFrom f i (x ∷ xs)) ≡ after (bs ++ b ∷ []) (eachFrom f (suc i) xs)
+  after-one bs i x xs b e = rw e (on (eachFrom f (suc i) xs))
+    where
+      on : (a : Answer (List B)) → after bs (a >>= (λ ys. accepted (b ∷ ys))) ≡ after (bs ++ b ∷ []) a
+      on (accepted cs) = ap accepted (sym (append-assoc bs (b ∷ []) cs))
+      on (refused k p) = refl
+
+  -- a fault stands at its index
+  pub after-fault : (bs : List B) (i : ℕ) (x : A) (xs : List A) (k : ℕ) → f x ≡ refused k 0 → after bs (eachFrom f i (x ∷ xs)) ≡ refused k i
+  after-fault bs i x xs k e = rw e refl
+
+  pub after-all : (bs : List B) (i : ℕ) → after bs (eachFrom f i []) ≡ accepted bs
+  after-all bs i = ap accepted (append-nil bs)
+
+-- So many statements of a list were taken.
+pub record Taken {A : Type 0} (f : A → Answer Brought) (mean : Form → A) (forms : List Form) (count i : ℕ) (ts₀ ds₀ : List ℕ) (t : Tally)
+    (ts ds : List ℕ) : Type 0 where
+  pub what : List Brought
+  pub many : length what ≡ i
+  pub each : eachFrom f 0 (map mean (slice 0 count forms)) ≡ after what (eachFrom f i (map mean (slice i count forms)))
+  pub added : Added what ts₀ ds₀ t ts ds
+  pub most : i ≤ count
+  pub few : t .terms ≤ 32768 * i
+  pub small : t .ground ≤ 20001 * i
+  pub stay : t .stays ≤ i
+  pub noted : t .dropped ≤ i
+
+module _ {A : Type 0} (f : A → Answer Brought) (mean : Form → A) (forms : List Form) (count : ℕ) where
+  pub none-taken : (ts ds : List ℕ) → Taken f mean forms count 0 ts ds nothing ts ds
+  none-taken ts ds = record {
+    what = [];
+    many = refl;
+    each = after-none f (eachFrom f 0 (map mean (slice 0 count forms)));
+    added = none-added ts ds;
+    most = omega arith;
+    few = omega arith;
+    small = omega arith;
+    stay = omega arith;
+    noted = omega arith;
+  }
+
+stay-one : (b : Brought) → length (staying b) ≤ 1
+stay-one defining = omega arith
+stay-one dropped = omega arith
+stay-one (stays f) = omega arith
+stay-one (brings x es) = omega arith
+
+note-one : (i : ℕ) (b : Brought) → length (noteOf i b) ≤ 1
+note-one i defining = omega arith
+note-one i dropped = omega arith
+note-one i (stays f) = omega arith
+note-one i (brings x es) = omega arith
+
+module _ {A : Type 0} {f : A → Answer Brought} {mean : Form → A} {forms : List Form} {count i : ℕ} {ts₀ ds₀ : List ℕ} {t : Tally}
+    {ts ds : List ℕ} (g : Taken f mean forms count i ts₀ ds₀ t ts ds) where
+  module _ (d : Form) (h : i < count) (w : count ≤ length forms) where
+    next : map mean (slice i count forms) ≡ mean (getD forms i d) ∷ map mean (slice (suc i) count forms)
+    next = ap (map mean) (slice-cons i count forms d h w)
+
+    pub one-taken : {b : Brought} {u : Tally} {ts' ds' : List ℕ}
+        → f (mean (getD forms i d)) ≡ accepted b
+        → Adds b i t ts ds u ts' ds'
+        → Taken f mean forms count (i + 1) ts₀ ds₀ u ts' ds'
+    one-taken {b} {u} {ts'} {ds'} e a =
+        subst (λ (k : ℕ). Taken f mean forms count k ts₀ ds₀ u ts' ds') (sym (add-one i))
+        (record {
+          what = g .what ++ b ∷ [];
+          many = omega (arith, g .many, length-append (g .what) (b ∷ []));
+          each =
+              g .each
+              ∙ ap (λ (l : List A). after (g .what) (eachFrom f i l)) next
+              ∙ after-one f (g .what) i (mean (getD forms i d)) (map mean (slice (suc i) count forms)) b e;
+          added = one-added (g .added) (g .many) a;
+          most = omega arith;
+          few = omega (arith, g .few, a .few, a .terms .next);
+          small = omega (arith, g .small, a .small, a .ground);
+          stay = omega (arith, g .stay, a .stays, stay-one b);
+          noted = omega (arith, g .noted, a .dropped .next, note-one i b);
+        })
+
+    pub fault-taken : (k : ℕ) → f (mean (getD forms i d)) ≡ refused k 0 → eachFrom f 0 (map mean (slice 0 count forms)) ≡ refused k i
+    fault-taken k e =
+        g .each
+        ∙ ap (λ (l : List A). after (g .what) (eachFrom f i l)) next
+        ∙ after-fault f (g .what) i (mean (getD forms i d)) (map mean (slice (suc i) count forms)) k e
+
+  pub all-taken : count ≤ i → eachFrom f 0 (map mean (slice 0 count forms)) ≡ accepted (g .what)
+  all-taken h =
+      let e : i ≡ count = omega (arith, g .most) in
+      g .each
+      ∙ ap (λ (k : ℕ). after (g .what) (eachFrom f i (map mean (slice k count forms)))) e
+      ∙ ap (λ (l : List Form). after (g .what) (eachFrom f i (map mean l))) (slice-empty count forms)
+      ∙ after-all f (g .what) i
+
+-- The same statements taken again, to be printed: those that are left bring something.
+pub record Printing {A : Type 0} (f : A → Answer Brought) (mean : Form → A) (forms : List Form) (count i : ℕ) (bs : List Brought) (before now : List ℕ)
+    (n at : ℕ) : Type 0 where
+  pub left : List Brought
+  pub each : eachFrom f i (map mean (slice i count forms)) ≡ accepted left
+  pub going : Going before 0 (restOf 0 (gather staying bs)) now at (restOf n (gather staying left))
+  pub most : i ≤ count
+  pub few : n ≤ i
+
+accepted-both : {B : Type 0} {x y : List B} → accepted x ≡ accepted y → x ≡ y
+accepted-both {B} {x} e = ap (λ (a : Answer (List B)). orElse a) e
+  where
+    orElse : Answer (List B) → List B
+    orElse (accepted z) = z
+    orElse (refused k p) = x
+
+-- what the first brings, and the others
+pub record First {A B : Type 0} (f : A → Answer B) (i : ℕ) (x : A) (xs : List A) (bs : List B) : Type 0 where
+  pub one : B
+  pub others : List B
+  pub brought : f x ≡ accepted one
+  pub each : eachFrom f (suc i) xs ≡ accepted others
+  pub are : bs ≡ one ∷ others
+
+pub first-of : {A B : Type 0} (f : A → Answer B) (i : ℕ) (x : A) (xs : List A) (bs : List B) → eachFrom f i (x ∷ xs) ≡ accepted bs → First f i x xs bs
+first-of {A} {B} f i x xs bs e = by-first (f x) refl (eachFrom f (suc i) xs) refl e
+  where
+    by-first : (a : Answer B) → f x ≡ a → (r : Answer (List B)) → eachFrom f (suc i) xs ≡ r
+        → (atIndex i a >>= (λ y. r >>= (λ ys. accepted (y ∷ ys)))) ≡ accepted bs
+        → First f i x xs bs
+    by-first (accepted b) p (accepted cs) q h = record { one = b; others = cs; brought = p; each = q; are = sym (accepted-both h) }
+    by-first (accepted b) p (refused k o) q h = let z : _≡_ {A = ℕ} 0 1 = cc in absurd (omega arith)
+    by-first (refused k o) p r q h = let z : _≡_ {A = ℕ} 0 1 = cc in absurd (omega arith)
+
+module _ {A : Type 0} (f : A → Answer Brought) (mean : Form → A) (forms : List Form) (count : ℕ) where
+  pub none-printed : (bs : List Brought) (before : List ℕ) → eachFrom f 0 (map mean (slice 0 count forms)) ≡ accepted bs
+      → Printing f mean forms count 0 bs before before 0 0
+  none-printed bs before e = record { left = bs; each = e; going = going before 0 (restOf 0 (gather staying bs)); most = omega arith; few = omega arith }
+
+module _ {A : Type 0} {f : A → Answer Brought} {mean : Form → A} {forms : List Form} {count i : ℕ} {bs : List Brought} {before now : List ℕ} {n at : ℕ}
+    (g : Printing f mean forms count i bs before now n at) where
+  -- no more than all of it was written
+  pub written-most : at ≤ length (restOf 0 (gather staying bs))
+  written-most =
+      omega (arith, g .going .written .next, ap length (g .going .whole), length-append (g .going .done) (restOf n (gather staying (g .left))))
+
+  module _ (d : Form) (h : i < count) (w : count ≤ length forms) where
+    pub this : First f i (mean (getD forms i d)) (map mean (slice (suc i) count forms)) (g .left)
+    this =
+        first-of f i (mean (getD forms i d)) (map mean (slice (suc i) count forms)) (g .left)
+        (sym (ap (λ (l : List Form). eachFrom f i (map mean l)) (slice-cons i count forms d h w)) ∙ g .each)
+
+    pub one-printed : {now' : List ℕ} {r : Put}
+        → PutOne (this .one) n now at now' r
+        → Printing f mean forms count (i + 1) bs before now' (r .stays) (r .at)
+    one-printed {now'} {r} p =
+        let x = this in
+        let e : restOf n (gather staying (g .left)) ≡ restOf n (staying (x .one)) ++ restOf (r .stays) (gather staying (x .others)) =
+        ap (λ (l : List Brought). restOf n (gather staying l)) (x .are)
+        ∙ rest-append n (staying (x .one)) (gather staying (x .others))
+        ∙ ap (λ (k : ℕ). restOf n (staying (x .one)) ++ restOf k (gather staying (x .others))) (sym (p .stays)) in
+        subst (λ (k : ℕ). Printing f mean forms count k bs before now' (r .stays) (r .at)) (sym (add-one i))
+        (record {
+          left = x .others;
+          each = x .each;
+          going = further (told e (g .going)) (p .written);
+          most = omega arith;
+          few = omega (arith, g .few, p .stays, stay-one (x .one));
+        })
+
+  pub all-printed : count ≤ i → Written before 0 (restOf 0 (gather staying bs)) now at
+  all-printed h =
+      let e : i ≡ count = omega (arith, g .most) in
+      let z : eachFrom f i (map mean (slice i count forms)) ≡ accepted [] =
+      ap (λ (k : ℕ). eachFrom f i (map mean (slice k count forms))) e ∙ ap (λ (l : List Form). eachFrom f i (map mean l)) (slice-empty count forms) in
+      no-more (told (ap (λ (l : List Brought). restOf n (gather staying l)) (accepted-both (sym (g .each) ∙ z))) (g .going))

@@ -1,0 +1,4 @@
+pub mod Adding
+pub mod Stepping
+pub mod Fitting
+pub mod Putting

@@ -1,0 +1,94 @@
+-- `brought::bring_one` meets its contract, statement by statement.
+-- Assumes nothing.
+use mathlib.Core.Path.{_≡_, refl, _∙_, ap, sym, subst}
+use denote.Ref.{now}
+use borrow.Author.Needs.{needs}
+use Rattle.forms.specs.declared.Statement as forms
+use Rattle.forms.specs.declared.Statement.the-variants as statementForm
+use Rattle.forms.specs.declared.Feature as features
+use Rattle.forms.specs.declared.Feature.the-variants as form
+use Rattle.forms.specs.Forms.{featureIn, statementIn}
+use Rattle.resolving.specs.Brought.{bring}
+use Rattle.space.specs.Fit.{Fit}
+use Rattle.brought.specs.Tallies.{BringAs}
+use Rattle.brought.proofs.Stepping.{nothing-added}
+use Rattle.brought.proofs.Fitting.{covariate-fits, feature-fits, feature-short, not-covariate}
+use Rattle.brought.proofs.bring_one.Statement.{statement}
+use Rattle.brought.proofs.bring_one.Tie as tie
+
+-- the statement fits, whichever it is
+module _ (s : tie.Start) {st : forms.Statement} (e : s .args .statement ≡ st) where
+  fits : Fit (now (s .args .text)) st
+  fits = subst (Fit (now (s .args .text))) e (s .pre .5)
+
+bring-terms-requires : tie.Need-bring-terms-requires
+bring-terms-requires c κs =
+    let x = c .before .before .before in
+    let k = x .before .before in
+    let f = k .before .statement in
+    let s = k .before .before .before .before .before .before .before .before .before .before in
+    let g = x .feature .given in
+    let y = covariate-fits (now (s .args .text)) (g .0 .0) (g .0 .1 .0) (g .0 .1 .1 .0) (g .0 .1 .1 .1 .0) (g .0 .1 .1 .1 .1 .0)
+    (fits s (f .given .1 ∙ ap statementForm.Feature (g .1))) in
+    (s .pre .0, s .pre .3, s .pre .4, y .parameters, y .covariates, y .small, s .pre .6, s .pre .7, s .pre .10)
+
+bring-other-requires : tie.Need-bring-other-requires
+bring-other-requires c κs =
+    let m = c .before .before in
+    let k = m .before in
+    let f = k .before .statement in
+    let s = k .before .before .before .before .before .before .before .before .before .before in
+    let y = fits s (f .given .1) in (
+      s .pre .0,
+      s .pre .1,
+      s .pre .2,
+      s .pre .3,
+      s .pre .4,
+      feature-fits (now (s .args .text)) (f .given .0 .0) y,
+      feature-short (now (s .args .text)) (f .given .0 .0) y,
+      not-covariate (f .given .0 .0) (m .match2 .keys2),
+      s .pre .6,
+      s .pre .8,
+      s .pre .9,
+      s .pre .10,
+    )
+
+returns : tie.Need-returns
+unfolding BringAs bring statementIn
+returns c =
+    let s = c .before .before .before .before .before .before .before .before .before in
+    nothing-added (s .args .index) (s .args .tally) (now (s .args .terms)) (now (s .args .dropped)) (rw (c .enum-told .given .1) refl)
+
+returns-2 : tie.Need-returns-2
+unfolding bring statementIn featureIn
+returns-2 c =
+    let b = c .before .before .before .before in
+    let x = b .before .before .before .before in
+    let f = x .before .before .before .statement in
+    rw (f .given .1, x .feature .given .1) (b .bring-terms .ensures)
+
+returns-3 : tie.Need-returns-3
+unfolding bring statementIn
+returns-3 c =
+    let b = c .before .before .before .before in
+    let k = b .before .before .before .before in
+    let f = k .before .statement in
+    let s = k .before .before .before .before .before .before .before .before .before .before in
+    rw (f .given .1) (b .bring-other .ensures (now (s .args .terms)))
+
+pub bring-one-spec : {M : Type 1} → statement M
+bring-one-spec =
+    tie.close
+    (tie.spec
+    (λ c. search needs)
+    (λ c. search needs)
+    (λ c. search needs)
+    bring-terms-requires
+    bring-other-requires
+    returns
+    (λ c. search needs)
+    (λ c. search needs)
+    returns-2
+    (λ c. search needs)
+    (λ c. search needs)
+    returns-3)

@@ -1,0 +1,69 @@
+-- `brought::bring_other` meets its contract.
+-- Assumes nothing.
+use mathlib.Core.Path.{_≡_, refl, subst}
+use native.Mathlib.Omega.{arith}
+use denote.Ref.{now}
+use borrow.Author.Needs.{needs}
+use Rattle.bringing.specs.Stays.{StayAs}
+use Rattle.brought.specs.Tallies.{BringAs}
+use Rattle.brought.proofs.Stepping.{statement-added, dropped-added}
+use Rattle.brought.proofs.bring_other.Statement.{statement}
+use Rattle.brought.proofs.bring_other.Tie as tie
+
+ground-feature-requires : tie.Need-ground-feature-requires
+ground-feature-requires c κs =
+    let s = c .before .before .before .before .before .before .before in
+    (s .pre .0, s .pre .1, s .pre .2, s .pre .3, s .pre .4, s .pre .5, s .pre .6, s .pre .7, s .pre .9)
+
+add-t21 : tie.Need-add-t21
+add-t21 c =
+    let s = c .before .before .before .before .before .before .before .before .before .before .before .before .before .before in
+    omega (arith, s .pre .10)
+
+note-requires : tie.Need-note-requires
+note-requires c κs =
+    let s = c .before .before .before .before .before .before .before .before .before .before .before .before .before in
+    (s .pre .8, s .pre .11)
+
+returns : tie.Need-returns
+unfolding BringAs StayAs
+returns c ts =
+    let x = c .before .before .next in
+    let b = c .before .before .before .before .before .before in
+    let s = b .before .before .before .before .before .before .before .before in
+    statement-added (s .args .index) (s .args .tally) ts (now (s .args .dropped)) (subst (StayAs _ _ _ _ _) (x .given .1) (b .ground-feature .ensures))
+
+returns-2 : tie.Need-returns-2
+unfolding BringAs StayAs
+returns-2 c ts =
+    let m = c .before .before in
+    let x = m .before .before .enum-told in
+    let b = m .before .before .before .before .before .before in
+    let s = b .before .before .before .before .before .before .before .before in
+    let h = subst (StayAs _ _ _ _ _) (x .given .1) (b .ground-feature .ensures) in
+    dropped-added (s .args .index) (s .args .tally) (h .0) refl (m .note .ensures)
+
+returns-3 : tie.Need-returns-3
+unfolding BringAs StayAs
+returns-3 c ts =
+    let x = c .before .number in
+    let b = c .before .before .before .before .before in
+    subst (StayAs _ _ _ _ _) (x .given .1) (b .ground-feature .ensures) .0
+
+pub bring-other-spec : {M : Type 1} → statement M
+bring-other-spec =
+    tie.close
+    (tie.spec
+    ground-feature-requires
+    (λ c. search needs)
+    add-t21
+    (λ c. search needs)
+    note-requires
+    (λ c. search needs)
+    (λ c. search needs)
+    returns
+    (λ c. search needs)
+    (λ c. search needs)
+    returns-2
+    (λ c. search needs)
+    returns-3)

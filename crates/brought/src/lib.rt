@@ -1,0 +1,463 @@
+// What all statements of a text bring, taken in their order.
+ghost use mathlib.Core.Path.{_≡_};
+ghost use mathlib.Core.Bool.{false};
+ghost use mathlib.Core.List.{List, []};
+ghost use Prim.Native.Nat.{ℕ, _+_, _*_, _≤_, _<_};
+ghost use lib.ListN.{length};
+ghost use Rattle.tokens.specs.Class.{classTable};
+ghost use Rattle.labels.specs.Table.{labelTable, keywordTable};
+ghost use Rattle.reading.specs.Statement.{Covariate};
+ghost use Rattle.forms.specs.Forms.{modesIn, opAs, operandIn, featureIn, statementIn};
+ghost use Rattle.parts.specs.Apart.{apart};
+ghost use Rattle.parts.specs.Meaning.{OperandFits, PartsFit};
+ghost use Rattle.resolving.specs.Brought.{bring as bring·spec, bringFeature, eachFrom};
+ghost use Rattle.resolving.specs.Handed.{handedContext};
+ghost use Rattle.context.specs.Lists.{Stands};
+ghost use Rattle.symbols.specs.Lets.{LetsFit};
+ghost use Rattle.operands.specs.Entries.{meaningIn};
+ghost use Rattle.space.specs.Space.{Whole, statementsIn};
+ghost use Rattle.space.specs.Fit.{Fit, FitAll};
+ghost use Rattle.bringing.specs.Stays.{isCovariate, Short};
+ghost use Rattle.bringing.specs.Terms.{SmallForms};
+ghost use Rattle.brought.specs.Tallies.{Noted, BringAs, AllAs};
+ghost use Rattle.brought.specs.Printed.{PutAs, StayFew, StaysPut};
+use bringing::Stay;
+use context::Layout;
+use forms::CovariateOp;
+use forms::Feature;
+use forms::Modes;
+use forms::Operand;
+use forms::Refusal;
+use forms::Statement;
+use labels::Keywords;
+use labels::Labels;
+use space::Space;
+use tokens::Classes;
+
+// How much the statements so far bring: how many terms, how many statements stay and how many bytes they have, and how many are dropped.
+pub struct Tally {
+    pub terms: usize,
+    pub stays: usize,
+    pub ground: usize,
+    pub dropped: usize,
+}
+
+// What the next statement makes of it, or a fault.
+pub enum Step {
+    Next(Tally),
+    Refused(u8),
+}
+
+// What all make of it, or the first fault.
+pub enum AllBrought {
+    Tally(Tally),
+    Refused(Refusal),
+}
+
+// One more is dropped.
+fn note(tally: Tally, dropped: &mut [u8], index: usize) -> Tally
+    requires { ⌜ (index < 256) × (tally .dropped ≤ 256) ⌝ }
+    ensures { λ r. ⌜ Noted tally index (now (dropped .entry)) (now (dropped .exit)) r ⌝ }
+{
+    Tally {
+        terms: tally.terms,
+        stays: tally.stays,
+        ground: tally.ground,
+        dropped: writing::put(dropped, tally.dropped, index as u8),
+    }
+}
+
+// What a COVARIATE adds.
+fn bring_terms(
+    text: &[u8],
+    classes: &Classes,
+    block: &[u8],
+    lists: &[u32],
+    layout: Layout,
+    lets: &[u32],
+    n: usize,
+    index: usize,
+    optional: bool,
+    parameters: Operand,
+    covariates: Operand,
+    effects: Modes,
+    op: CovariateOp,
+    tally: Tally,
+    terms: &mut [u32],
+    dropped: &mut [u8],
+) -> Step
+    requires { ⌜ (now classes ≡ classTable) × Stands (now block) (now lists) layout × LetsFit (now text) (now lets) n
+        × OperandFits (now text) parameters × OperandFits (now text) covariates × SmallForms (modesIn effects) × (index < 256)
+        × (tally .terms ≤ 4294967296) × (tally .dropped ≤ 256) ⌝ }
+    ensures { λ r. ⌜ BringAs (bringFeature (handedContext (now (block .entry)) (now (lists .entry)))
+        (meaningIn (now (text .entry)) (now (lets .entry)) n (handedContext (now (block .entry)) (now (lists .entry))))
+        (Covariate optional (operandIn (now (text .entry)) parameters) (operandIn (now (text .entry)) covariates) (modesIn effects) (opAs op)))
+        index tally (now (terms .entry)) (now (dropped .entry)) (now (terms .exit)) (now (dropped .exit)) r ⌝ }
+{
+    match bringing::bring_covariate(
+        text,
+        classes,
+        block,
+        lists,
+        layout,
+        lets,
+        n,
+        index,
+        optional,
+        parameters,
+        covariates,
+        effects,
+        op,
+        terms,
+        tally.terms,
+    ) {
+        Stay::Next(next) => Step::Next(Tally {
+            terms: next,
+            stays: tally.stays,
+            ground: tally.ground,
+            dropped: tally.dropped,
+        }),
+        Stay::Dropped => Step::Next(note(tally, dropped, index)),
+        Stay::Refused(number) => Step::Refused(number),
+    }
+}
+
+// What another feature adds. Its ground statement is only measured: `out` has no room.
+fn bring_other(
+    text: &[u8],
+    classes: &Classes,
+    labels: &Labels,
+    keys: &Keywords,
+    block: &[u8],
+    lists: &[u32],
+    layout: Layout,
+    lets: &[u32],
+    n: usize,
+    index: usize,
+    feature: Feature,
+    tally: Tally,
+    dropped: &mut [u8],
+    out: &mut [u8],
+) -> Step
+    requires { ⌜ (now classes ≡ classTable) × (now labels ≡ labelTable) × (now keys ≡ keywordTable)
+        × Stands (now block) (now lists) layout × LetsFit (now text) (now lets) n
+        × PartsFit (now text) (apart (Statement.Feature feature)) × Short (now text) feature × (isCovariate feature ≡ false) × (index < 256)
+        × (tally .ground ≤ 4294967296) × (tally .stays ≤ 256) × (tally .dropped ≤ 256) ⌝ }
+    ensures { λ r. ⌜ ((terms : List ℕ) → BringAs (bringFeature (handedContext (now (block .entry)) (now (lists .entry)))
+        (meaningIn (now (text .entry)) (now (lets .entry)) n (handedContext (now (block .entry)) (now (lists .entry))))
+        (featureIn (now (text .entry)) feature))
+        index tally terms (now (dropped .entry)) terms (now (dropped .exit)) r) ⌝ }
+{
+    match bringing::ground_feature(
+        text,
+        classes,
+        labels,
+        keys,
+        block,
+        lists,
+        layout,
+        lets,
+        n,
+        feature,
+        tally.stays,
+        out,
+        tally.ground,
+    ) {
+        Stay::Next(next) => Step::Next(Tally {
+            terms: tally.terms,
+            stays: tally.stays + 1,
+            ground: next,
+            dropped: tally.dropped,
+        }),
+        Stay::Dropped => Step::Next(note(tally, dropped, index)),
+        Stay::Refused(number) => Step::Refused(number),
+    }
+}
+
+// What the statement at an index adds.
+fn bring_one(
+    text: &[u8],
+    classes: &Classes,
+    labels: &Labels,
+    keys: &Keywords,
+    block: &[u8],
+    lists: &[u32],
+    layout: Layout,
+    lets: &[u32],
+    n: usize,
+    index: usize,
+    statement: Statement,
+    tally: Tally,
+    terms: &mut [u32],
+    dropped: &mut [u8],
+    out: &mut [u8],
+) -> Step
+    requires { ⌜ (now classes ≡ classTable) × (now labels ≡ labelTable) × (now keys ≡ keywordTable)
+        × Stands (now block) (now lists) layout × LetsFit (now text) (now lets) n
+        × Fit (now text) statement × (index < 256)
+        × (tally .terms ≤ 4294967296) × (tally .ground ≤ 4294967296) × (tally .stays ≤ 256) × (tally .dropped ≤ 256) ⌝ }
+    ensures { λ r. ⌜ BringAs (bring·spec (handedContext (now (block .entry)) (now (lists .entry)))
+        (meaningIn (now (text .entry)) (now (lets .entry)) n (handedContext (now (block .entry)) (now (lists .entry))))
+        (statementIn (now (text .entry)) statement))
+        index tally (now (terms .entry)) (now (dropped .entry)) (now (terms .exit)) (now (dropped .exit)) r ⌝ }
+{
+    match statement {
+        Statement::Let { .. } => Step::Next(tally),
+        Statement::Feature(feature) => match feature {
+            Feature::Covariate {
+                optional,
+                parameters,
+                covariates,
+                effects,
+                op,
+            } => bring_terms(
+                text,
+                classes,
+                block,
+                lists,
+                layout,
+                lets,
+                n,
+                index,
+                optional,
+                parameters,
+                covariates,
+                effects,
+                op,
+                tally,
+                terms,
+                dropped,
+            ),
+            _ => bring_other(
+                text,
+                classes,
+                labels,
+                keys,
+                block,
+                lists,
+                layout,
+                lets,
+                n,
+                index,
+                feature,
+                tally,
+                dropped,
+                out,
+            ),
+        },
+    }
+}
+
+// What all statements bring: the terms, and the indexes of those that are dropped.
+pub fn bring_all(
+    text: &[u8],
+    classes: &Classes,
+    labels: &Labels,
+    keys: &Keywords,
+    block: &[u8],
+    lists: &[u32],
+    layout: Layout,
+    lets: &[u32],
+    n: usize,
+    space: Space,
+    terms: &mut [u32],
+    dropped: &mut [u8],
+    out: &mut [u8],
+) -> AllBrought
+    requires { ⌜ (now classes ≡ classTable) × (now labels ≡ labelTable) × (now keys ≡ keywordTable)
+        × Stands (now block) (now lists) layout × LetsFit (now text) (now lets) n
+        × Whole space × FitAll (now text) space ⌝ }
+    ensures { λ r. ⌜ AllAs (eachFrom (bring·spec (handedContext (now (block .entry)) (now (lists .entry)))
+        (meaningIn (now (text .entry)) (now (lets .entry)) n (handedContext (now (block .entry)) (now (lists .entry)))))
+        0 (statementsIn (now (text .entry)) space))
+        (now (terms .entry)) (now (dropped .entry)) (now (terms .exit)) (now (dropped .exit)) r ⌝ }
+{
+    let forms = space.forms;
+    let count = space.count;
+    let mut tally = Tally {
+        terms: 0,
+        stays: 0,
+        ground: 0,
+        dropped: 0,
+    };
+    let mut i = 0;
+    while i < count {
+        let form = forms[i];
+        let statement = form.statement;
+        match bring_one(
+            text,
+            classes,
+            labels,
+            keys,
+            block,
+            lists,
+            layout,
+            lets,
+            n,
+            i,
+            statement,
+            tally,
+            terms,
+            dropped,
+            out,
+        ) {
+            Step::Next(next) => {
+                tally = next;
+                i += 1;
+            }
+            Step::Refused(number) => {
+                return AllBrought::Refused(Refusal { number, place: i });
+            }
+        }
+    }
+    AllBrought::Tally(tally)
+}
+
+// How many statements stay so far, and the index behind them.
+pub struct Put {
+    pub stays: usize,
+    pub at: usize,
+}
+
+// The ground statement of a feature other than COVARIATE, if it stays.
+fn put_feature(
+    text: &[u8],
+    classes: &Classes,
+    labels: &Labels,
+    keys: &Keywords,
+    block: &[u8],
+    lists: &[u32],
+    layout: Layout,
+    lets: &[u32],
+    n: usize,
+    feature: Feature,
+    before: Put,
+    out: &mut [u8],
+) -> Put
+    requires { ⌜ (now classes ≡ classTable) × (now labels ≡ labelTable) × (now keys ≡ keywordTable)
+        × Stands (now block) (now lists) layout × LetsFit (now text) (now lets) n
+        × PartsFit (now text) (apart (Statement.Feature feature)) × Short (now text) feature × (isCovariate feature ≡ false)
+        × (before .at ≤ 4294967296) × (before .stays ≤ 256) ⌝ }
+    ensures { λ r. ⌜ PutAs (bringFeature (handedContext (now (block .entry)) (now (lists .entry)))
+        (meaningIn (now (text .entry)) (now (lets .entry)) n (handedContext (now (block .entry)) (now (lists .entry))))
+        (featureIn (now (text .entry)) feature))
+        (before .stays) (now (out .entry)) (before .at) (now (out .exit)) r ⌝ }
+{
+    match bringing::ground_feature(
+        text,
+        classes,
+        labels,
+        keys,
+        block,
+        lists,
+        layout,
+        lets,
+        n,
+        feature,
+        before.stays,
+        out,
+        before.at,
+    ) {
+        Stay::Next(at) => Put {
+            stays: before.stays + 1,
+            at,
+        },
+        Stay::Dropped => before,
+        Stay::Refused(_) => before,
+    }
+}
+
+// The same of any statement: a LET and a COVARIATE leave none here.
+fn put_statement(
+    text: &[u8],
+    classes: &Classes,
+    labels: &Labels,
+    keys: &Keywords,
+    block: &[u8],
+    lists: &[u32],
+    layout: Layout,
+    lets: &[u32],
+    n: usize,
+    statement: Statement,
+    before: Put,
+    out: &mut [u8],
+) -> Put
+    requires { ⌜ (now classes ≡ classTable) × (now labels ≡ labelTable) × (now keys ≡ keywordTable)
+        × Stands (now block) (now lists) layout × LetsFit (now text) (now lets) n
+        × Fit (now text) statement × (before .at ≤ 4294967296) × (before .stays ≤ 256) ⌝ }
+    ensures { λ r. ⌜ PutAs (bring·spec (handedContext (now (block .entry)) (now (lists .entry)))
+        (meaningIn (now (text .entry)) (now (lets .entry)) n (handedContext (now (block .entry)) (now (lists .entry))))
+        (statementIn (now (text .entry)) statement))
+        (before .stays) (now (out .entry)) (before .at) (now (out .exit)) r ⌝ }
+{
+    match statement {
+        Statement::Let { .. } => before,
+        Statement::Feature(feature) => match feature {
+            Feature::Covariate { .. } => before,
+            _ => put_feature(
+                text,
+                classes,
+                labels,
+                keys,
+                block,
+                lists,
+                layout,
+                lets,
+                n,
+                feature,
+                before,
+                out,
+            ),
+        },
+    }
+}
+
+// The ground statements of all that stay, of statements that all bring something.
+pub fn put_stays(
+    text: &[u8],
+    classes: &Classes,
+    labels: &Labels,
+    keys: &Keywords,
+    block: &[u8],
+    lists: &[u32],
+    layout: Layout,
+    lets: &[u32],
+    n: usize,
+    space: Space,
+    out: &mut [u8],
+) -> usize
+    requires { ⌜ (now classes ≡ classTable) × (now labels ≡ labelTable) × (now keys ≡ keywordTable)
+        × Stands (now block) (now lists) layout × LetsFit (now text) (now lets) n
+        × Whole space × FitAll (now text) space
+        × StayFew (eachFrom (bring·spec (handedContext (now block) (now lists)) (meaningIn (now text) (now lets) n (handedContext (now block) (now lists))))
+        0 (statementsIn (now text) space)) ⌝ }
+    ensures { λ r. ⌜ StaysPut (eachFrom (bring·spec (handedContext (now (block .entry)) (now (lists .entry)))
+        (meaningIn (now (text .entry)) (now (lets .entry)) n (handedContext (now (block .entry)) (now (lists .entry)))))
+        0 (statementsIn (now (text .entry)) space))
+        (now (out .entry)) (now (out .exit)) r ⌝ }
+{
+    let forms = space.forms;
+    let count = space.count;
+    let mut done = Put { stays: 0, at: 0 };
+    let mut i = 0;
+    while i < count {
+        let form = forms[i];
+        let statement = form.statement;
+        done = put_statement(
+            text,
+            classes,
+            labels,
+            keys,
+            block,
+            lists,
+            layout,
+            lets,
+            n,
+            statement,
+            done,
+            out,
+        );
+        i += 1;
+    }
+    done.at
+}
