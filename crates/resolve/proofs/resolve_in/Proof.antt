@@ -1,0 +1,75 @@
+-- `resolve::resolve_in` meets its contract: the text's own faults come before those of the context. Assumes nothing.
+use mathlib.Core.Path.{refl}
+use denote.Ref.{now}
+use borrow.Author.Needs.{needs}
+use Rattle.tokens.specs.Class.{classOf, classTable}
+use Rattle.labels.specs.Label.{labelsOf, keywords}
+use Rattle.labels.specs.Table.{labelTable, keywordTable}
+use Rattle.statements.proofs.Texts.{long-text}
+use Rattle.space.proofs.Fitting.{space-fits}
+use Rattle.resolve.specs.Answers.{resolvedAs}
+use Rattle.resolve.proofs.Answering.{refused-answers, same-answers}
+use Rattle.resolve.proofs.Calling.{read-accepted, read-refused, accepted-handed, refused-handed}
+use Rattle.resolve.proofs.resolve_in.Statement.{statement}
+use Rattle.resolve.proofs.resolve_in.Tie as tie
+
+returns : tie.Need-returns
+returns c =
+    refused-answers (c .refuse .result) 1 0 (refused-handed _ _ _ _ 1 0 (long-text _ _ (c .before .if1 .taken))) (c .refuse .ensures)
+
+read-space-requires : tie.Need-read-space-requires
+unfolding classTable classOf labelTable labelsOf keywordTable keywords
+read-space-requires c κs = (refl, refl, refl, c .before .before .before .if1 .left)
+
+resolve-read-requires : tie.Need-resolve-read-requires
+unfolding classTable classOf labelTable labelsOf keywordTable keywords
+resolve-read-requires c κs =
+    let x = c .before .before .before .before .before .before .before in
+    let k = x .before .before in
+    let e = k .before .before .before .before in
+    let s = e .before .before .before .before .before .before in
+    let h = k .read-space .ensures in (
+      refl,
+      refl,
+      refl,
+      h .1,
+      space-fits (s .args .limit) (now (s .args .text)) (k .read-space .result) (h .1)
+          (read-accepted _ _ _ (h .0) (x .enum-told .given .1)),
+      e .if1 .left,
+      s .pre,
+    )
+
+returns-2 : tie.Need-returns-2
+unfolding resolvedAs
+returns-2 c =
+    let x = c .before in
+    let k = x .before .before in
+    refused-answers _ _ _
+    (refused-handed _ _ _ _ _ _ (read-refused _ _ (k .read-space .result) (k .read-space .ensures .0) (x .ending .given .0 .0) (x .ending .given .1)))
+    refl
+
+returns-3 : tie.Need-returns-3
+returns-3 c =
+    let d = c .before .before .before .before .before .before in
+    let x = d .before .before .before .before .before .before .before .before in
+    let k = x .before .before in
+    same-answers (d .resolve-read .result)
+    (accepted-handed _ _ _ _ _ (read-accepted _ _ (k .read-space .result) (k .read-space .ensures .0) (x .enum-told .given .1)))
+    (d .resolve-read .ensures)
+
+pub resolve-in-spec : {M : Type 1} → statement M
+resolve-in-spec =
+    tie.close
+    (tie.spec
+    (λ c κs. search needs)
+    returns
+    read-space-requires
+    (λ c. search needs)
+    (λ c. search needs)
+    resolve-read-requires
+    returns-2
+    (λ c. search needs)
+    (λ c. search needs)
+    (λ c. search needs)
+    (λ c. search needs)
+    returns-3)

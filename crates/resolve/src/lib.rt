@@ -1,0 +1,534 @@
+// Resolve: a text and a context give the ground text, the covariate effects and the notes.
+ghost use mathlib.Core.Path.{_≡_};
+ghost use mathlib.Core.Bool.{false, cond};
+ghost use mathlib.Core.List.{List, [], map};
+ghost use Prim.Native.Nat.{ℕ, _+_, _*_, _≤_, _<_};
+ghost use lib.ListN.{length, take};
+ghost use Rattle.tokens.specs.Class.{classTable};
+ghost use Rattle.labels.specs.Table.{labelTable, keywordTable};
+ghost use Rattle.reading.specs.Answer.{accepted, refused};
+ghost use Rattle.resolving.specs.Brought.{Brought, bring, eachFrom};
+ghost use Rattle.resolving.specs.Resolve as definition;
+ghost use Rattle.resolving.specs.Handed.{isHanded, handedContext, resolveHanded};
+ghost use Rattle.resolving.specs.Call.{resolveCall, lengthsOf, outputOf, workAfter, effectNumbers, noteNumbers};
+ghost use Rattle.context.specs.Lists.{Stands};
+ghost use Rattle.symbols.specs.Lets.{LetsFit};
+ghost use Rattle.operands.specs.Entries.{meaningIn};
+ghost use Rattle.space.specs.Space.{Whole, statementsIn};
+ghost use Rattle.space.specs.Fit.{FitAll};
+ghost use Rattle.resolving.specs.Resolve.{groundText};
+ghost use Rattle.outputs.specs.Entries.{additiveNote};
+ghost use Rattle.resolve.specs.Answers.{Answers, resolvedAs, lent};
+ghost use Rattle.resolve.specs.Stages.{GroundPut, BroughtThere, Grounding, grounded, settled};
+use brought::AllBrought;
+use brought::Tally;
+use collecting::Collected;
+use context::Checked;
+use context::Layout;
+use forms::Refusal;
+use labels::Keywords;
+use labels::Labels;
+use merging::Grouped;
+use merging::Outcome;
+use space::Ending;
+use space::Space;
+use tokens::Classes;
+
+// How many bytes the ground text has, and how many effects and notes there are.
+pub struct Lengths {
+    pub ground: usize,
+    pub effects: usize,
+    pub notes: usize,
+}
+
+// The three lengths, or why the text is refused.
+pub enum Resolved {
+    Lengths(Lengths),
+    Refused(Refusal),
+}
+
+// How many elements the working buffer has to have.
+pub const WORKING: usize = 6656;
+
+// The faults of resolving that are found here, by their numbers.
+pub const WRONG_CONTEXT: u8 = 12;
+
+pub const SECOND_LET: u8 = 13;
+
+pub const FORCED_TWICE: u8 = 17;
+
+pub const TOO_LARGE: u8 = 18;
+
+fn refuse(number: u8, place: usize) -> Resolved
+    ensures { λ r. ⌜ resolvedAs r ≡ refused number place ⌝ }
+{
+    Resolved::Refused(Refusal { number, place })
+}
+
+// The ground text, of what stays and of the groups.
+fn put_ground(
+    text: &[u8],
+    classes: &Classes,
+    labels: &Labels,
+    keys: &Keywords,
+    block: &[u8],
+    lists: &[u32],
+    layout: Layout,
+    lets: &[u32],
+    n: usize,
+    space: Space,
+    tally: Tally,
+    dropped: &[u8],
+    work: &[u32],
+    count: usize,
+    groups: usize,
+    out: &mut [u8],
+) -> usize
+    requires { ⌜ (now classes ≡ classTable) × (now labels ≡ labelTable) × (now keys ≡ keywordTable) × Stands (now block) (now lists) layout
+        × LetsFit (now text) (now lets) n × Whole space × FitAll (now text) space
+        × Grounding (eachFrom (bring (handedContext (now block) (now lists)) (meaningIn (now text) (now lets) n (handedContext (now block) (now lists))))
+        0 (statementsIn (now text) space)) (handedContext (now block) (now lists)) tally (now dropped) (now work) count groups × (tally .ground ≤ 16384) ⌝ }
+    ensures { λ r. ⌜ GroundPut (eachFrom (bring (handedContext (now (block .entry)) (now (lists .entry)))
+        (meaningIn (now (text .entry)) (now (lets .entry)) n (handedContext (now (block .entry)) (now (lists .entry)))))
+        0 (statementsIn (now (text .entry)) space)) (handedContext (now (block .entry)) (now (lists .entry))) (now (out .entry)) (now (out .exit)) r ⌝ }
+{
+    let at = brought::put_stays(
+        text,
+        classes,
+        labels,
+        keys,
+        block,
+        lists,
+        layout,
+        lets,
+        n,
+        space,
+        out,
+    );
+    group_text::put_groups(
+        block,
+        classes,
+        lists,
+        labels,
+        keys,
+        layout,
+        work,
+        count,
+        groups,
+        tally.stays,
+        out,
+        at,
+    )
+}
+
+// How many notes there are: one for each statement that is dropped, and one if some effect is additive.
+fn note_count(dropped: usize, additive: bool) -> usize
+    requires { ⌜ dropped ≤ 256 ⌝ }
+    ensures { λ r. ⌜ r ≡ dropped + length (additiveNote additive) ⌝ }
+{
+    if additive {
+        return dropped + 1;
+    }
+    dropped
+}
+
+// The answer of grouped effects: the ground text is measured, and then all is written if there is room.
+fn resolve_grouped(
+    text: &[u8],
+    classes: &Classes,
+    labels: &Labels,
+    keys: &Keywords,
+    block: &[u8],
+    lists: &[u32],
+    layout: Layout,
+    lets: &[u32],
+    n: usize,
+    space: Space,
+    tally: Tally,
+    dropped: &[u8],
+    count: usize,
+    groups: usize,
+    ground: &mut [u8],
+    effects: &mut [[u8; 5]],
+    notes: &mut [[u8; 2]],
+    work: &[u32],
+) -> Resolved
+    requires { ⌜ (now classes ≡ classTable) × (now labels ≡ labelTable) × (now keys ≡ keywordTable) × Stands (now block) (now lists) layout
+        × LetsFit (now text) (now lets) n × Whole space × FitAll (now text) space
+        × Grounding (eachFrom (bring (handedContext (now block) (now lists)) (meaningIn (now text) (now lets) n (handedContext (now block) (now lists))))
+        0 (statementsIn (now text) space)) (handedContext (now block) (now lists)) tally (now dropped) (now work) count groups ⌝ }
+    ensures { λ r. ⌜ ((bs : List Brought) → (eachFrom (bring (handedContext (now (block .entry)) (now (lists .entry)))
+        (meaningIn (now (text .entry)) (now (lets .entry)) n (handedContext (now (block .entry)) (now (lists .entry)))))
+        0 (statementsIn (now (text .entry)) space)) ≡ accepted bs
+        → Answers (grounded (handedContext (now (block .entry)) (now (lists .entry))) bs) (now (ground .entry)) (now (effects .entry)) (now (notes .entry))
+        (now (ground .exit)) (now (effects .exit)) (now (notes .exit)) r) ⌝ }
+{
+    if 256 < tally.stays + groups {
+        return refuse(TOO_LARGE, 0);
+    }
+    let length = group_text::put_groups(
+        block,
+        classes,
+        lists,
+        labels,
+        keys,
+        layout,
+        work,
+        count,
+        groups,
+        tally.stays,
+        &mut ground[..0],
+        tally.ground,
+    );
+    if 16384 < length {
+        return refuse(TOO_LARGE, 0);
+    }
+    let additive = merging::additive(work, count);
+    let remarks = note_count(tally.dropped, additive);
+    if ground.len() < length {
+        return refuse(forms::TOO_SHORT, 0);
+    }
+    if effects.len() < count {
+        return refuse(forms::TOO_SHORT, 0);
+    }
+    if notes.len() < remarks {
+        return refuse(forms::TOO_SHORT, 0);
+    }
+    put_ground(
+        text,
+        classes,
+        labels,
+        keys,
+        block,
+        lists,
+        layout,
+        lets,
+        n,
+        space,
+        tally,
+        dropped,
+        work,
+        count,
+        groups,
+        ground,
+    );
+    outputs::put_effects(effects, work, count);
+    outputs::put_notes(notes, dropped, tally.dropped, additive);
+    Resolved::Lengths(Lengths {
+        ground: length,
+        effects: count,
+        notes: remarks,
+    })
+}
+
+// The answer of what the statements bring.
+fn resolve_brought(
+    text: &[u8],
+    classes: &Classes,
+    labels: &Labels,
+    keys: &Keywords,
+    block: &[u8],
+    lists: &[u32],
+    layout: Layout,
+    lets: &[u32],
+    n: usize,
+    space: Space,
+    tally: Tally,
+    dropped: &[u8],
+    ground: &mut [u8],
+    effects: &mut [[u8; 5]],
+    notes: &mut [[u8; 2]],
+    work: &mut [u32],
+) -> Resolved
+    requires { ⌜ (now classes ≡ classTable) × (now labels ≡ labelTable) × (now keys ≡ keywordTable) × Stands (now block) (now lists) layout
+        × LetsFit (now text) (now lets) n × Whole space × FitAll (now text) space
+        × BroughtThere (eachFrom (bring (handedContext (now block) (now lists)) (meaningIn (now text) (now lets) n (handedContext (now block) (now lists))))
+        0 (statementsIn (now text) space)) tally (now dropped) (now work) ⌝ }
+    ensures { λ r. ⌜ ((bs : List Brought) → (eachFrom (bring (handedContext (now (block .entry)) (now (lists .entry)))
+        (meaningIn (now (text .entry)) (now (lets .entry)) n (handedContext (now (block .entry)) (now (lists .entry)))))
+        0 (statementsIn (now (text .entry)) space)) ≡ accepted bs
+        → Answers (definition.mergeAndGround (handedContext (now (block .entry)) (now (lists .entry))) bs) (now (ground .entry)) (now (effects .entry)) (now (notes .entry))
+        (now (ground .exit)) (now (effects .exit)) (now (notes .exit)) r) ⌝ }
+{
+    if 2048 < tally.terms {
+        return refuse(TOO_LARGE, 0);
+    }
+    let count = match merging::settle(work, tally.terms) {
+        Outcome::Refused(index) => {
+            return refuse(FORCED_TWICE, index as usize);
+        }
+        Outcome::Effects(count) => count,
+    };
+    let groups = match merging::group(work, count) {
+        Grouped::Many => {
+            return refuse(TOO_LARGE, 0);
+        }
+        Grouped::Groups(groups) => groups,
+    };
+    resolve_grouped(
+        text,
+        classes,
+        labels,
+        keys,
+        block,
+        lists,
+        layout,
+        lets,
+        n,
+        space,
+        tally,
+        dropped,
+        count,
+        groups,
+        ground,
+        effects,
+        notes,
+        work,
+    )
+}
+
+// The answer of statements whose LETs were collected.
+fn resolve_collected(
+    text: &[u8],
+    classes: &Classes,
+    labels: &Labels,
+    keys: &Keywords,
+    block: &[u8],
+    lists: &[u32],
+    layout: Layout,
+    lets: &[u32],
+    n: usize,
+    space: Space,
+    ground: &mut [u8],
+    effects: &mut [[u8; 5]],
+    notes: &mut [[u8; 2]],
+    work: &mut [u32],
+) -> Resolved
+    requires { ⌜ (now classes ≡ classTable) × (now labels ≡ labelTable) × (now keys ≡ keywordTable) × Stands (now block) (now lists) layout
+        × LetsFit (now text) (now lets) n × Whole space × FitAll (now text) space × (6656 ≤ length (now work)) ⌝ }
+    ensures { λ r. ⌜ Answers (settled (handedContext (now (block .entry)) (now (lists .entry)))
+        (eachFrom (bring (handedContext (now (block .entry)) (now (lists .entry)))
+        (meaningIn (now (text .entry)) (now (lets .entry)) n (handedContext (now (block .entry)) (now (lists .entry)))))
+        0 (statementsIn (now (text .entry)) space))) (now (ground .entry)) (now (effects .entry)) (now (notes .entry))
+        (now (ground .exit)) (now (effects .exit)) (now (notes .exit)) r ⌝ }
+{
+    let mut dropped = [0; 256];
+    let tally = match brought::bring_all(
+        text,
+        classes,
+        labels,
+        keys,
+        block,
+        lists,
+        layout,
+        lets,
+        n,
+        space,
+        work,
+        &mut dropped,
+        &mut ground[..0],
+    ) {
+        AllBrought::Refused(r) => {
+            return Resolved::Refused(r);
+        }
+        AllBrought::Tally(tally) => tally,
+    };
+    resolve_brought(
+        text,
+        classes,
+        labels,
+        keys,
+        block,
+        lists,
+        layout,
+        lets,
+        n,
+        space,
+        tally,
+        &dropped,
+        ground,
+        effects,
+        notes,
+        work,
+    )
+}
+
+// The answer of the statements of a text, in a context that was checked.
+fn resolve_checked(
+    text: &[u8],
+    classes: &Classes,
+    labels: &Labels,
+    keys: &Keywords,
+    block: &[u8],
+    lists: &[u32],
+    layout: Layout,
+    space: Space,
+    ground: &mut [u8],
+    effects: &mut [[u8; 5]],
+    notes: &mut [[u8; 2]],
+    work: &mut [u32],
+) -> Resolved
+    requires { ⌜ (now classes ≡ classTable) × (now labels ≡ labelTable) × (now keys ≡ keywordTable) × Stands (now block) (now lists) layout
+        × Whole space × FitAll (now text) space × (length (now text) ≤ 16384) × (6656 ≤ length (now work)) ⌝ }
+    ensures { λ r. ⌜ Answers (definition.resolve (handedContext (now (block .entry)) (now (lists .entry))) (statementsIn (now (text .entry)) space))
+        (now (ground .entry)) (now (effects .entry)) (now (notes .entry))
+        (now (ground .exit)) (now (effects .exit)) (now (notes .exit)) r ⌝ }
+{
+    let mut lets = [0; 1024];
+    let n = match collecting::collect_lets(text, space, &mut lets) {
+        Collected::Second(index) => {
+            return refuse(SECOND_LET, index);
+        }
+        Collected::Count(n) => n,
+    };
+    resolve_collected(
+        text,
+        classes,
+        labels,
+        keys,
+        block,
+        lists,
+        layout,
+        &lets,
+        n,
+        space,
+        ground,
+        effects,
+        notes,
+        work,
+    )
+}
+
+// The answer of the statements of a text.
+fn resolve_read(
+    text: &[u8],
+    classes: &Classes,
+    labels: &Labels,
+    keys: &Keywords,
+    block: &[u8],
+    lists: &[u32],
+    space: Space,
+    ground: &mut [u8],
+    effects: &mut [[u8; 5]],
+    notes: &mut [[u8; 2]],
+    work: &mut [u32],
+) -> Resolved
+    requires { ⌜ (now classes ≡ classTable) × (now labels ≡ labelTable) × (now keys ≡ keywordTable)
+        × Whole space × FitAll (now text) space × (length (now text) ≤ 16384) × (6656 ≤ length (now work)) ⌝ }
+    ensures { λ r. ⌜ Answers (cond (isHanded (now (block .entry)) (now (lists .entry)))
+        (definition.resolve (handedContext (now (block .entry)) (now (lists .entry))) (statementsIn (now (text .entry)) space)) (refused 12 0))
+        (now (ground .entry)) (now (effects .entry)) (now (notes .entry))
+        (now (ground .exit)) (now (effects .exit)) (now (notes .exit)) r ⌝ }
+{
+    match context::check(block, classes, lists) {
+        Checked::Wrong => refuse(WRONG_CONTEXT, 0),
+        Checked::Context(layout) => resolve_checked(
+            text,
+            classes,
+            labels,
+            keys,
+            block,
+            lists,
+            layout,
+            space,
+            ground,
+            effects,
+            notes,
+            work,
+        ),
+    }
+}
+
+// The answer, with a working buffer that is long enough.
+fn resolve_in(
+    text: &[u8],
+    block: &[u8],
+    lists: &[u32],
+    ground: &mut [u8],
+    effects: &mut [[u8; 5]],
+    notes: &mut [[u8; 2]],
+    work: &mut [u32],
+    limit: u32,
+) -> Resolved
+    requires { ⌜ 6656 ≤ length (now work) ⌝ }
+    ensures { λ r. ⌜ Answers (resolveHanded limit (now (block .entry)) (now (lists .entry)) (now (text .entry)))
+        (now (ground .entry)) (now (effects .entry)) (now (notes .entry))
+        (now (ground .exit)) (now (effects .exit)) (now (notes .exit)) r ⌝ }
+{
+    if 16384 < text.len() {
+        return refuse(forms::TOO_LONG, 0);
+    }
+    let classes = tokens::CLASSES;
+    let labels = labels::LABELS;
+    let keys = labels::KEYWORDS;
+    let space = space::read_space(text, &classes, &labels, &keys, limit);
+    let ending = space.ending;
+    match ending {
+        Ending::Refused(r) => Resolved::Refused(r),
+        Ending::Accepted => resolve_read(
+            text,
+            &classes,
+            &labels,
+            &keys,
+            block,
+            lists,
+            space,
+            ground,
+            effects,
+            notes,
+            work,
+        ),
+    }
+}
+
+// Resolve under a limit for counts. The working buffer is zero afterwards, whatever comes of it, unless it is too short.
+pub fn resolve_under(
+    text: &[u8],
+    block: &[u8],
+    lists: &[u32],
+    ground: &mut [u8],
+    effects: &mut [[u8; 5]],
+    notes: &mut [[u8; 2]],
+    work: &mut [u32],
+    limit: u32,
+) -> Resolved
+    ensures { λ r. ⌜ resolvedAs r ≡ lengthsOf (resolveCall limit (now (block .entry)) (now (lists .entry)) (now (text .entry))
+        (lent (now (ground .entry)) (now (effects .entry)) (now (notes .entry))) (length (now (work .entry)))) ⌝ }
+    ensures { λ _. ⌜ now (ground .exit) ≡ outputOf groundText (resolveCall limit (now (block .entry)) (now (lists .entry)) (now (text .entry))
+        (lent (now (ground .entry)) (now (effects .entry)) (now (notes .entry))) (length (now (work .entry)))) (now (ground .entry)) ⌝ }
+    ensures { λ _. ⌜ now (effects .exit) ≡ outputOf (λ x. map effectNumbers (x .effects)) (resolveCall limit (now (block .entry)) (now (lists .entry)) (now (text .entry))
+        (lent (now (ground .entry)) (now (effects .entry)) (now (notes .entry))) (length (now (work .entry)))) (now (effects .entry)) ⌝ }
+    ensures { λ _. ⌜ now (notes .exit) ≡ outputOf (λ x. map noteNumbers (x .notes)) (resolveCall limit (now (block .entry)) (now (lists .entry)) (now (text .entry))
+        (lent (now (ground .entry)) (now (effects .entry)) (now (notes .entry))) (length (now (work .entry)))) (now (notes .entry)) ⌝ }
+    ensures { λ _. ⌜ now (work .exit) ≡ workAfter (now (work .entry)) ⌝ }
+{
+    if work.len() < WORKING {
+        return refuse(forms::TOO_SHORT, 0);
+    }
+    let resolved = resolve_in(text, block, lists, ground, effects, notes, work, limit);
+    outputs::clear(work);
+    resolved
+}
+
+// Resolve.
+pub fn resolve(
+    text: &[u8],
+    block: &[u8],
+    lists: &[u32],
+    ground: &mut [u8],
+    effects: &mut [[u8; 5]],
+    notes: &mut [[u8; 2]],
+    work: &mut [u32],
+) -> Resolved
+    ensures { λ r. ⌜ resolvedAs r ≡ lengthsOf (resolveCall 64 (now (block .entry)) (now (lists .entry)) (now (text .entry))
+        (lent (now (ground .entry)) (now (effects .entry)) (now (notes .entry))) (length (now (work .entry)))) ⌝ }
+    ensures { λ _. ⌜ now (ground .exit) ≡ outputOf groundText (resolveCall 64 (now (block .entry)) (now (lists .entry)) (now (text .entry))
+        (lent (now (ground .entry)) (now (effects .entry)) (now (notes .entry))) (length (now (work .entry)))) (now (ground .entry)) ⌝ }
+    ensures { λ _. ⌜ now (effects .exit) ≡ outputOf (λ x. map effectNumbers (x .effects)) (resolveCall 64 (now (block .entry)) (now (lists .entry)) (now (text .entry))
+        (lent (now (ground .entry)) (now (effects .entry)) (now (notes .entry))) (length (now (work .entry)))) (now (effects .entry)) ⌝ }
+    ensures { λ _. ⌜ now (notes .exit) ≡ outputOf (λ x. map noteNumbers (x .notes)) (resolveCall 64 (now (block .entry)) (now (lists .entry)) (now (text .entry))
+        (lent (now (ground .entry)) (now (effects .entry)) (now (notes .entry))) (length (now (work .entry)))) (now (notes .entry)) ⌝ }
+    ensures { λ _. ⌜ now (work .exit) ≡ workAfter (now (work .entry)) ⌝ }
+{
+    resolve_under(text, block, lists, ground, effects, notes, work, 64)
+}
