@@ -1,0 +1,184 @@
+-- Demand 3, whole, of the calls.
+--
+-- Joining. Where Count accepts A and B with n and m statements, the joined text has at most 16,384 bytes and n + m is at most 256, Count gives
+-- n + m of A, newline, B, and Statement gives A's statements and then B's, with the offsets of their names and symbols raised by A's length
+-- and one.
+--
+-- Reordering. Where Count accepts A and D, and Statement gives each statement of A as often as of D, Resolve refuses D in a context exactly
+-- when it refuses A, and else gives the same set of effects, whatever the buffers hold, if they have full size.
+--
+-- Rereading. Where Resolve gives a ground text for A in a context, Count accepts it, and Resolve gives of it in that context the same
+-- bytes and the same set of effects, with no note of reason 0.
+--
+-- Assumes nothing.
+use Prim.Native.Nat.{ℕ, zero, suc, _+_, _≤_}
+use native.Mathlib.Nat.{zero-add}
+use native.Mathlib.Omega.{arith}
+use mathlib.Core.Path.{_≡_, refl, _∙_, ap, sym, subst₂}
+use mathlib.Core.Bool.{Bool, true, false, cond}
+use mathlib.Core.List.{List, [], _∷_, _++_, map, append-assoc}
+use mathlib.Core.Option.{Option, some, none}
+use borrow.Author.Tests.{le-ltb}
+use lib.Dec.{ltb}
+use lib.ListN.{length, length-append, getElem?}
+use Rattle.text.specs.Bytes.{countUp}
+use Rattle.reading.specs.Statement.{Statement}
+use Rattle.reading.specs.Answer.{Answer, accepted, refused, _>>=_}
+use Rattle.reading.specs.Read.{readText}
+use Rattle.canonical_laws.specs.Forgotten.{forget}
+use Rattle.statements.specs.Answers.{counted, chosen, nthOf, counting, stating}
+use Rattle.values.specs.Calls.{Joined}
+use Rattle.values.proofs.Joining.{joined}
+use Rattle.resolving.specs.Lists.{gather}
+use Rattle.resolving.specs.Faults.{wrongContext}
+use Rattle.resolving.specs.Resolve.{Resolved, groundText, resolve}
+use Rattle.resolving.specs.Given.{isContext, contextIn, resolveText}
+use Rattle.resolving.specs.Handed.{isRun, givenIn, resolveHanded}
+use Rattle.resolving.specs.Call.{workingLength, exceeds, lengthsIn, roomFor, resolveCall}
+use Rattle.resolving_laws.specs.Alike.{Alike, both, neither}
+use Rattle.resolving_laws.specs.Claims as definitions
+use Rattle.resolving_laws.specs.Claims.{SameEffects}
+use Rattle.resolving_laws.proofs.Passed.{refused≢accepted}
+use Rattle.resolving_laws.proofs.Texts.{reordered-alike, ground-text-kept}
+use Rattle.claims.specs.Claims.{fullSize, stated, statementsOf, SameStatements, Reordered, Reread}
+use Rattle.claims.proofs.FullSize.{resolved-fits}
+
+pub joining :
+    (limit : ℕ) (a b : List ℕ) (n m : ℕ)
+    → counting limit a ≡ accepted n
+    → counting limit b ≡ accepted m
+    → length (a ++ 10 ∷ b) ≤ 16384
+    → n + m ≤ 256
+    → Joined limit a b n m
+joining = joined
+
+-- What Statement gives at all indexes are the statements that were read.
+
+record Read (limit : ℕ) (text : List ℕ) (n : ℕ) : Type 0 where
+  statements : List Statement
+  read : readText limit text ≡ accepted statements
+  many : length statements ≡ n
+
+-- a text that is read as statements
+record IsRead (limit : ℕ) (text : List ℕ) : Type 0 where
+  statements : List Statement
+  read : readText limit text ≡ accepted statements
+
+counted-read : (limit : ℕ) (text : List ℕ) (n : ℕ) → counting limit text ≡ accepted n → Read limit text n
+counted-read limit text n e = by-answer (readText limit text) refl e
+  where
+    by-answer : (a : Answer (List Statement)) → readText limit text ≡ a → counted 0 a ≡ accepted n → Read limit text n
+    by-answer (accepted ss) p h = let z : 0 + length ss ≡ n = cc in record { statements = ss; read = p; many = omega (arith, z) }
+    by-answer (refused k o) p h = absurd (refused≢accepted h)
+
+at-each : (xs ss : List Statement) (i : ℕ) → length xs ≡ i
+    → gather (λ j. stated (chosen j (getElem? (xs ++ ss) j))) (countUp i (length ss)) ≡ map forget ss
+at-each xs [] i h = refl
+at-each xs (s ∷ ss) i h =
+    ap (λ (o : Option Statement). stated (chosen i o) ++ gather (λ j. stated (chosen j (getElem? (xs ++ s ∷ ss) j))) (countUp (suc i) (length ss)))
+    (here xs i h)
+    ∙ ap (λ (l : List Statement). forget s ∷ l)
+    (ap (λ (l : List Statement). gather (λ j. stated (chosen j (getElem? l j))) (countUp (suc i) (length ss))) (sym (append-assoc xs (s ∷ []) ss))
+    ∙ at-each (xs ++ s ∷ []) ss (suc i) (omega (arith, h, length-append xs (s ∷ []))))
+  where
+    here : (ys : List Statement) (k : ℕ) → length ys ≡ k → getElem? (ys ++ s ∷ ss) k ≡ some s
+    here [] zero e = refl
+    here [] (suc k) e = absurd (omega arith)
+    here (y ∷ ys) zero e = absurd (omega arith)
+    here (y ∷ ys) (suc k) e = here ys k (omega arith)
+
+statements-are : (limit : ℕ) (text : List ℕ) (n : ℕ) (r : Read limit text n) → statementsOf limit text n ≡ map forget (r .statements)
+statements-are limit text n r =
+    ap (λ (a : Answer (List Statement)). gather (λ i. stated (nthOf i a)) (countUp 0 n)) (r .read)
+    ∙ ap (λ (k : ℕ). gather (λ i. stated (nthOf i (accepted (r .statements)))) (countUp 0 k)) (sym (r .many))
+    ∙ at-each [] (r .statements) 0 refl
+
+same-statements : (limit : ℕ) (a d : List ℕ) → SameStatements limit a d → definitions.SameStatements limit a d
+same-statements limit a d s =
+    let x = counted-read limit a (s .first) (s .counts) in
+    let y = counted-read limit d (s .second) (s .counts-too) in
+    record {
+      first = x .statements;
+      second = y .statements;
+      first-read = x .read;
+      second-read = y .read;
+      as-often = λ t. rw (sym (statements-are limit a (s .first) x), sym (statements-are limit d (s .second) y)) (s .as-often t);
+    }
+
+-- Resolve with buffers of full size.
+
+module _ (limit : ℕ) (block numbers : List ℕ) (work : ℕ) (enough : workingLength ≤ work) where
+  -- the call's answer is the definition's
+  abbrev answer : List ℕ → Answer Resolved
+  answer text = roomFor fullSize (resolveHanded limit block numbers text)
+
+  call-is : (text : List ℕ) → resolveCall limit block numbers text fullSize work ≡ answer text
+  unfolding resolveCall
+  call-is text = ap (λ (t : Bool). cond t (refused 19 0) (answer text)) (le-ltb work workingLength enough)
+
+  fits : (text : List ℕ) (a : Answer Resolved) → resolveText limit (givenIn block numbers) text ≡ a → roomFor fullSize a ≡ a
+  fits text (accepted r) e = ap (λ (t : Bool). cond t (refused 19 0) (accepted r)) (resolved-fits limit (givenIn block numbers) text r e)
+  fits text (refused n p) e = refl
+
+  run : isRun numbers ≡ true → (text : List ℕ) → resolveCall limit block numbers text fullSize work ≡ resolveText limit (givenIn block numbers) text
+  unfolding resolveHanded
+  run h text =
+      call-is text
+      ∙ ap (λ (t : Bool). roomFor fullSize (cond t (resolveText limit (givenIn block numbers) text) (readText limit text >>= (λ ss. refused wrongContext 0)))) h
+      ∙ fits text (resolveText limit (givenIn block numbers) text) refl
+
+  abbrev refusal : (a : Answer (List Statement)) → Answer Resolved
+  refusal a = a >>= (λ ss. refused wrongContext 0)
+
+  no-run : isRun numbers ≡ false → (text : List ℕ) → resolveCall limit block numbers text fullSize work ≡ roomFor fullSize (refusal (readText limit text))
+  unfolding resolveHanded
+  no-run h text =
+      call-is text
+      ∙ ap (λ (t : Bool). roomFor fullSize (cond t (resolveText limit (givenIn block numbers) text) (readText limit text >>= (λ ss. refused wrongContext 0)))) h
+
+  pub reordering : (a d : List ℕ) → SameStatements limit a d → Reordered limit block numbers work a d
+  reordering a d s = by-run (isRun numbers) refl
+    where
+      t : definitions.SameStatements limit a d
+      t = same-statements limit a d s
+
+      by-run : (b : Bool) → isRun numbers ≡ b → Reordered limit block numbers work a d
+      by-run true h = subst₂ (Alike SameEffects) (sym (run h a)) (sym (run h d)) (reordered-alike limit (givenIn block numbers) a d t)
+      by-run false h =
+          subst₂ (Alike SameEffects)
+          (sym (no-run h a ∙ ap (λ (x : Answer (List Statement)). roomFor fullSize (refusal x)) (t .first-read)))
+          (sym (no-run h d ∙ ap (λ (x : Answer (List Statement)). roomFor fullSize (refusal x)) (t .second-read)))
+          neither
+
+  -- where a text resolves, it was accepted
+  read-so : (text : List ℕ) (r : Resolved) → resolveText limit (givenIn block numbers) text ≡ accepted r → IsRead limit text
+  unfolding resolveText
+  read-so text r e = by-answer (readText limit text) refl e
+    where
+      by-answer : (a : Answer (List Statement)) → readText limit text ≡ a
+          → (a >>= (λ ss. cond (isContext (givenIn block numbers)) (resolve (contextIn (givenIn block numbers)) ss) (refused wrongContext 0))) ≡ accepted r
+          → IsRead limit text
+      by-answer (accepted ss) p h = record { statements = ss; read = p }
+      by-answer (refused n o) p h = absurd (refused≢accepted h)
+
+  pub rereading : (text : List ℕ) (r : Resolved) → resolveCall limit block numbers text fullSize work ≡ accepted r → Reread limit block numbers work r
+  rereading text r e = by-run (isRun numbers) refl
+    where
+      by-run : (b : Bool) → isRun numbers ≡ b → Reread limit block numbers work r
+      by-run true h =
+          let k = ground-text-kept limit (givenIn block numbers) text r (sym (run h text) ∙ e) in
+          let x = read-so (groundText r) (k .result) (k .resolves) in
+          record {
+            count = length (x .statements);
+            counts = ap (counted 0) (x .read) ∙ ap accepted (zero-add (length (x .statements)));
+            result = k .result;
+            resolves = run h (groundText r) ∙ k .resolves;
+            same = k .same;
+            undropped = k .undropped;
+            same-effects = k .same-effects;
+          }
+      by-run false h = absurd (no-answer (readText limit text) (sym (no-run h text) ∙ e))
+        where
+          no-answer : (a : Answer (List Statement)) → roomFor fullSize (refusal a) ≡ accepted r → ⊥
+          no-answer (accepted ss) q = refused≢accepted q
+          no-answer (refused n p) q = refused≢accepted q

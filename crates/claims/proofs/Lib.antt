@@ -1,0 +1,2 @@
+pub mod FullSize
+pub mod Calls

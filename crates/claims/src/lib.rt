@@ -1,0 +1,1 @@
+// What is claimed of the calls together: no code.
