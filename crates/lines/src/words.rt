@@ -106,6 +106,27 @@ pub fn read_number(line: &[u8], from: usize) -> Numbered {
     number_to(value, from, i)
 }
 
+// The number from an offset of the line on, to any byte that is no digit. One that is far beyond 32 bits is none.
+pub fn read_digits(line: &[u8], from: usize) -> Numbered {
+    let mut value = 0;
+    let mut i = from;
+    while i < line.len() {
+        let b = line[i];
+        if b < b'0' {
+            return number_to(value, from, i);
+        }
+        if b'9' < b {
+            return number_to(value, from, i);
+        }
+        if 429496729 < value {
+            return Numbered::Malformed;
+        }
+        value = value * 10 + (b - b'0') as usize;
+        i += 1;
+    }
+    number_to(value, from, i)
+}
+
 // The offset of the first blank from an offset of the line on, or the line's length.
 pub fn word_end(line: &[u8], from: usize) -> usize {
     let mut i = from;

@@ -1,10 +1,11 @@
 // Answers request lines from standard input, one line each, before it waits for more: `tokens HEX`, `count HEX`, `statement INDEX HEX`, `print HEX`
-// and `print HEX N`. A line that is no request is answered too, and stops nothing.
+// and `print HEX N`, `resolve HEX MARKS BLOCK LISTS` and `resolve HEX MARKS BLOCK LISTS G,E,N,W`. A line that is no request is answered too, and
+// stops nothing. A line has room for the longest text with the largest context.
 mod input;
 
 fn main() {
     let mut chunk = io::large_buffer();
-    let mut line = io::large_buffer();
+    let mut line = [0; 131072];
     let mut text = io::large_buffer();
     let mut out = io::large_buffer();
     input::answer_all(&mut chunk, &mut line, &mut text, &mut out);

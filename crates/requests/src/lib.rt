@@ -157,6 +157,9 @@ fn answer_words(line: &[u8], text: &mut [u8], out: &mut [u8], len: usize) -> usi
     if words::begins(line, b"statement") {
         return answer_index(line, 10, text, out, len);
     }
+    if words::begins(line, b"resolve") {
+        return resolve_lines::answer_resolve(line, 8, text, out, len);
+    }
     output::malformed(out, len)
 }
 
