@@ -25,7 +25,7 @@ use Rattle.resolving_laws.proofs.MergedLaws.{merged-shorter}
 use Rattle.claims.specs.Claims.{fullSize}
 
 -- as many answers as there are statements
-each-many : {A B : Type 0} (f : A → Answer B) (i : ℕ) (xs : List A) (ys : List B) → eachFrom f i xs ≡ accepted ys → length ys ≡ length xs
+pub each-many : {A B : Type 0} (f : A → Answer B) (i : ℕ) (xs : List A) (ys : List B) → eachFrom f i xs ≡ accepted ys → length ys ≡ length xs
 each-many f i [] ys e = let z : ys ≡ [] = cc in ap length z
 each-many {A} {B} f i (x ∷ xs) ys e = by-first (f x) (eachFrom f (suc i) xs) refl e (each-many f (suc i) xs)
   where

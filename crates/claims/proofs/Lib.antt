@@ -1,2 +1,3 @@
 pub mod FullSize
+pub mod Places
 pub mod Calls
