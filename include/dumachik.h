@@ -1,14 +1,14 @@
-/* Dumachik's calls: MFL texts counted, printed and given by value. `rt staticlib dumachik` proves them and writes
+/* Dumachik's calls: MFL texts counted, printed, given by value and resolved. `rt staticlib dumachik` proves them and writes
  * target/staticlib/libdumachik.a, for x86-64. Of other libraries it needs memcpy and memset alone.
  *
- * No call allocates, keeps state or copies the text, and none takes a working buffer. Any bytes may be given: a text need not be UTF-8,
- * and bytes of 128 and more may stand only in a comment. A text and an output must not overlap. Where a length is 0 its pointer is not read,
- * but must not be null.
+ * No call allocates, keeps state or copies the text, and only mfl_resolve takes a working buffer. Any bytes may be given: a text need not be
+ * UTF-8, and bytes of 128 and more may stand only in a comment. No output may overlap another or an input. Where a length is 0 its pointer is
+ * not read, but must not be null.
  *
  * Limits: 16,384 bytes of text, 256 statements, 64 entries of an array, 64 for a count.
  *
- * An answer of mfl_count, mfl_print and mfl_statement is below 2^32, or a refusal: its number * 2^32 + its place. Places are counted from zero
- * in bytes of the text unless said otherwise.
+ * Bits 32 to 39 of an answer are a refusal's number, and 0 where nothing is refused; bits 0 to 31 are then its place. Places are counted from
+ * zero in bytes of the text unless said otherwise.
  *
  *   1   text over 16,384 bytes                                            0
  *   2   byte that starts no token                                         its offset
@@ -23,7 +23,16 @@
  *   10  unknown mode                                                      its word's or number's offset
  *   11  any token but a separator after 256 statements;
  *       a 65th word or number in an array                                 that token's offset
- *   19  an output shorter than its answer                                 0
+ *   12  context not as it must be                                         0
+ *   13  second LET of a key                                               its statement's index
+ *   14  unknown symbol, or one whose template or block is missing         the statement's index
+ *   15  name not in the model                                             the statement's index
+ *   16  effect against the covariate's kind                               the statement's index
+ *   17  pair forced by two statements                                     the lowest index that forces a pair again
+ *   18  over 2,048 effects before merging; over 256 ground statements;
+ *       ground text over 16,384 bytes                                     0
+ *   19  an output shorter than its answer; a working buffer that is
+ *       too short                                                         0
  *   20  statement index not below the count                               the index
  */
 #ifndef DUMACHIK_H
@@ -45,8 +54,19 @@ extern "C" {
 #define MFL_STATEMENT_ROOM 272
 
 /* A refusal's number, 0 where the answer is none; and its place. */
-#define MFL_REFUSAL(answer) ((uint32_t)((answer) >> 32))
+#define MFL_REFUSAL(answer) ((uint32_t)((answer) >> 32) & 0xff)
 #define MFL_PLACE(answer) ((uint32_t)(answer))
+
+/* Full size for mfl_resolve, which always suffices (proved), and how many elements its working buffer has to have. */
+#define MFL_GROUND_ROOM 16384
+#define MFL_EFFECT_ROOM 2048
+#define MFL_NOTE_ROOM 257
+#define MFL_WORKING 6656
+
+/* How many bytes of ground text, effects and notes an answer of mfl_resolve gives, where it is no refusal. */
+#define MFL_GROUND(answer) ((size_t)((answer) & 0xffff))
+#define MFL_EFFECTS(answer) ((size_t)((answer) >> 16 & 0xffff))
+#define MFL_NOTES(answer) ((size_t)((answer) >> 40))
 
 /* The offset of the first byte that starts no token, or the text's length where there is none. Of a text of any length. */
 size_t mfl_scan(const uint8_t *text, size_t length);
@@ -96,6 +116,32 @@ uint64_t mfl_print(const uint8_t *text, size_t length, uint8_t *out, size_t room
  *   COVARIANCE                                    IIV IOV
  */
 uint64_t mfl_statement(const uint8_t *text, size_t length, uint32_t index, uint32_t *out, size_t room);
+
+/* An effect: the parameter and the covariate, each the index of its name's first entry in its list (declared covariates, or data columns
+ * without a block), the form by its place in COVARIATE's family, the operator (0 `*`, 1 `+`), and whether it is optional (0 or 1). */
+struct mfl_effect {
+    uint8_t parameter, covariate, form, op, optional;
+};
+
+/* A note: 0 and the index of a statement that was dropped; or, last, 1 and 0: some effect is additive. */
+struct mfl_note {
+    uint8_t reason, index;
+};
+
+/* Resolve: a text in a context gives its ground text, its covariate effects and its notes.
+ *
+ * The context is a block of name bytes, at most 16,384, and a run of numbers: how many parameters, IIV parameters, template bindings, declared
+ * covariates and data columns there are, at most 64 each; 1 where there is a template, else 0; 1 where there is a declaration block, else 0; and
+ * then the entries, list after list. A parameter, an IIV parameter and a data column are two numbers, an offset and a length into the block; a
+ * binding four, its role's pair and its variable's; a declared covariate three, its pair and its kind, 0 continuous or 1 categorical. The pairs
+ * of a list are sorted by offset, without overlap; a name has 1 to 32 bytes that are one word or one number. All of it is checked (12).
+ *
+ * Outputs past what is given are as they were, and all of them where Resolve refuses: by 19, last of all, where one is shorter than its answer.
+ * A working buffer that is shorter than MFL_WORKING is 19 before every other refusal and stays as it is; else all of it is zero afterwards,
+ * whatever it held. */
+uint64_t mfl_resolve(const uint8_t *text, size_t length, const uint8_t *block, size_t block_length, const uint32_t *lists, size_t lists_length,
+                     uint8_t *ground, size_t ground_room, struct mfl_effect *effects, size_t effects_room, struct mfl_note *notes,
+                     size_t notes_room, uint32_t *work, size_t work_length);
 
 #ifdef __cplusplus
 }

@@ -1,25 +1,43 @@
-//! Puts the source's mfl.rs, unchanged, where lib.rs can name it: from the folder `shared` beside the repository, or from the folder that
-//! DUMACHIK_SHARED names. Where it is not there the programs are built to say so.
+//! Puts the source's mfl.rs and resolve.rs, unchanged, where lib.rs can name them: from the folder `shared` beside the repository, or from the
+//! folder that DUMACHIK_SHARED names. Where they are not there the programs are built to say so.
 use std::path::PathBuf;
 use std::{env, fs};
 
-const NAME: &str = "src--crates--ferx-tools--src--search--mfl.rs.txt";
+const MODULES: [&str; 2] = ["mfl", "resolve"];
 
 fn main() {
     let beside = || PathBuf::from(env!("CARGO_MANIFEST_DIR")).join("../../../shared");
-    let source = env::var_os("DUMACHIK_SHARED").map_or_else(beside, PathBuf::from).join(NAME);
+    let shared = env::var_os("DUMACHIK_SHARED").map_or_else(beside, PathBuf::from);
     println!("cargo::rerun-if-env-changed=DUMACHIK_SHARED");
-    println!("cargo::rerun-if-changed={}", source.display());
     println!("cargo::rustc-check-cfg=cfg(without_source)");
-    println!("cargo::rustc-env=SOURCE={}", source.display());
+    println!("cargo::rustc-env=SOURCE={}", shared.display());
 
     let out = PathBuf::from(env::var_os("OUT_DIR").expect("cargo sets OUT_DIR"));
-    let Ok(text) = fs::read(&source) else {
-        println!("cargo::rustc-cfg=without_source");
-        return;
-    };
-    let module = out.join("mfl.rs");
-    fs::write(&module, text).expect("OUT_DIR can be written");
-    let line = format!("#[allow(dead_code)]\n#[path = {module:?}]\npub mod mfl;\n");
-    fs::write(out.join("source.rs"), line).expect("OUT_DIR can be written");
+    let mut lines = String::new();
+    for name in MODULES {
+        let source = shared.join(format!("src--crates--ferx-tools--src--search--{name}.rs.txt"));
+        println!("cargo::rerun-if-changed={}", source.display());
+        let Ok(text) = fs::read(&source) else {
+            println!("cargo::rustc-cfg=without_source");
+            return;
+        };
+        let module = out.join(format!("{name}.rs"));
+        fs::write(&module, text).expect("OUT_DIR can be written");
+        lines += &format!("#[allow(dead_code)]\n#[path = {module:?}]\npub mod {name};\n");
+    }
+    fs::write(out.join("source.rs"), lines).expect("OUT_DIR can be written");
+
+    // A caller: of structure.rs, what `space_features` needs, and the function, from its first line to its last.
+    let source = shared.join("src--crates--ferx-tools--src--modelsearch--structure.rs.txt");
+    println!("cargo::rerun-if-changed={}", source.display());
+    let text = fs::read_to_string(&source).unwrap_or_default();
+    let types = between(&text, "/// The absorption a candidate has.", "/// One point of the structural space.");
+    let function = between(&text, "/// The structural features a resolved MFL space names", "/// Pharmpy's `least_number_of_transformations`");
+    fs::write(out.join("caller.rs"), format!("{types}\n{function}")).expect("OUT_DIR can be written");
+}
+
+/// The lines of a text from one that starts so to the one before another.
+fn between(text: &str, first: &str, behind: &str) -> String {
+    let lines = text.lines().skip_while(|line| !line.starts_with(first)).take_while(|line| !line.starts_with(behind));
+    lines.map(|line| line.to_string() + "\n").collect()
 }

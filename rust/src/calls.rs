@@ -1,6 +1,6 @@
 //! The library's calls on slices. All of the crate's `unsafe` is here.
 
-use crate::refusal::{answered, Refusal};
+use crate::refusal::{answered, refused, Refusal};
 
 mod library {
     extern "C" {
@@ -8,6 +8,22 @@ mod library {
         pub fn mfl_count(text: *const u8, length: usize) -> u64;
         pub fn mfl_print(text: *const u8, length: usize, out: *mut u8, room: usize) -> u64;
         pub fn mfl_statement(text: *const u8, length: usize, index: u32, out: *mut u32, room: usize) -> u64;
+        pub fn mfl_resolve(
+            text: *const u8,
+            length: usize,
+            block: *const u8,
+            block_length: usize,
+            lists: *const u32,
+            lists_length: usize,
+            ground: *mut u8,
+            ground_room: usize,
+            effects: *mut super::Effect,
+            effects_room: usize,
+            notes: *mut super::NoteNumbers,
+            notes_room: usize,
+            work: *mut u32,
+            work_room: usize,
+        ) -> u64;
     }
 }
 
@@ -38,4 +54,95 @@ pub fn print_into(text: &[u8], out: &mut [u8]) -> Result<usize, Refusal> {
 pub fn statement_into(text: &[u8], index: u32, out: &mut [u32]) -> Result<usize, Refusal> {
     // SAFETY: as above.
     answered(unsafe { library::mfl_statement(text.as_ptr(), text.len(), index, out.as_mut_ptr(), out.len()) })
+}
+
+/// How many elements Resolve's working buffer has to have.
+pub const WORKING: usize = 6656;
+/// The most effects that Resolve gives.
+pub const MAX_EFFECTS: usize = 2048;
+/// The most notes that Resolve gives.
+pub const MAX_NOTES: usize = 257;
+
+/// A covariate effect: the indexes of its parameter and its covariate, each that of its name's first entry in the context's list, its form by
+/// its place in [`CovariateEffect`](crate::CovariateEffect), its operator (0 `*`, 1 `+`), and whether it is optional (0 or 1).
+#[repr(C)]
+#[derive(Debug, Clone, Copy, PartialEq, Eq, Hash, Default)]
+pub struct Effect {
+    pub parameter: u8,
+    pub covariate: u8,
+    pub form: u8,
+    pub operator: u8,
+    pub optional: u8,
+}
+
+/// A note: its reason (0 dropped, 1 some effect is additive) and the index of its statement.
+#[repr(C)]
+#[derive(Debug, Clone, Copy, PartialEq, Eq, Hash, Default)]
+pub struct NoteNumbers {
+    pub reason: u8,
+    pub index: u8,
+}
+
+/// What is lent to Resolve: its three outputs and what it works with. Full size always suffices.
+#[derive(Debug, Clone)]
+pub struct Buffers {
+    pub ground: Vec<u8>,
+    pub effects: Vec<Effect>,
+    pub notes: Vec<NoteNumbers>,
+    pub work: Vec<u32>,
+}
+
+impl Default for Buffers {
+    /// Of full size.
+    fn default() -> Self {
+        Buffers {
+            ground: vec![0; crate::MAX_TEXT],
+            effects: vec![Effect::default(); MAX_EFFECTS],
+            notes: vec![NoteNumbers::default(); MAX_NOTES],
+            work: vec![0; WORKING],
+        }
+    }
+}
+
+/// How many bytes the ground text has, and how many effects and notes there are.
+#[derive(Debug, Clone, Copy, PartialEq, Eq, Hash)]
+pub struct Lengths {
+    pub ground: usize,
+    pub effects: usize,
+    pub notes: usize,
+}
+
+/// Resolve: writes the ground text, the effects and the notes of a text in a context, which `include/dumachik.h` describes, and gives how many.
+/// Outputs past them are as they were, and all of them on a refusal; the working buffer is zero afterwards, unless it is shorter than
+/// [`WORKING`]. [`resolve`](crate::resolve()) gives the same with names.
+pub fn resolve_into(text: &[u8], block: &[u8], lists: &[u32], buffers: &mut Buffers) -> Result<Lengths, Refusal> {
+    let Buffers { ground, effects, notes, work } = buffers;
+    // SAFETY: each pointer and the length after it are one slice's, and the borrows keep the slices apart. `Effect` and `NoteNumbers` are
+    // laid out as the header's five and two bytes.
+    let answer = unsafe {
+        library::mfl_resolve(
+            text.as_ptr(),
+            text.len(),
+            block.as_ptr(),
+            block.len(),
+            lists.as_ptr(),
+            lists.len(),
+            ground.as_mut_ptr(),
+            ground.len(),
+            effects.as_mut_ptr(),
+            effects.len(),
+            notes.as_mut_ptr(),
+            notes.len(),
+            work.as_mut_ptr(),
+            work.len(),
+        )
+    };
+    match refused(answer) {
+        Some(refusal) => Err(refusal),
+        None => Ok(Lengths {
+            ground: (answer & 0xffff) as usize,
+            effects: (answer >> 16 & 0xffff) as usize,
+            notes: (answer >> 40) as usize,
+        }),
+    }
 }

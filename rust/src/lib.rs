@@ -1,8 +1,8 @@
-//! MFL, Pharmpy's Model Feature Language, read and printed by Dumachik's proved calls.
+//! MFL, Pharmpy's Model Feature Language, read, printed and resolved by Dumachik's proved calls.
 //!
-//! [`Mfl`] is a space that was accepted; its statements come as an owned tree with the names of ferx-core's mfl.rs. What is refused is refused
-//! by a number and a place, [`Refusal`]. The four calls themselves are there on slices: [`scan`], [`count`], [`print_into`],
-//! [`statement_into`]; they allocate nothing. [`statement`] gives the last one's answer as a tree.
+//! [`Mfl`] is a space that was accepted; its statements are a tree with the names of ferx-core's mfl.rs. [`resolve()`] gives it in a
+//! [`ModelContext`], with the names of resolve.rs. What is refused is refused by a number and a place, [`Refusal`]. The calls themselves are
+//! there on slices: [`scan`], [`count`], [`print_into`], [`statement_into`], [`resolve_into`]; they allocate nothing.
 //!
 //! ```
 //! use dumachik::{Counts, Fault, Feature, Mfl, Statement};
@@ -12,7 +12,7 @@
 //! assert_eq!(space.len(), 2);
 //! assert_eq!(
 //!     space.statement(0),
-//!     Some(Statement::Feature(Feature::Peripherals { counts: Counts::Single(7), kind: None }))
+//!     Some(&Statement::Feature(Feature::Peripherals { counts: Counts::Single(7), kind: None }))
 //! );
 //!
 //! let refusal = Mfl::parse("LAGTIME(ON)\nPERIPHERALS(65)").unwrap_err();
@@ -24,14 +24,24 @@
 #![deny(unsafe_op_in_unsafe_fn, missing_debug_implementations)]
 
 mod calls;
+mod context;
+mod display;
 mod numbers;
 mod refusal;
+mod resolved;
 mod tree;
 
 use std::fmt;
+use std::hash::{Hash, Hasher};
+use std::sync::OnceLock;
 
-pub use calls::{count, print_into, scan, statement_into, STATEMENT_ROOM};
+pub use calls::{
+    count, print_into, resolve_into, scan, statement_into, Buffers, Effect, Lengths, NoteNumbers, MAX_EFFECTS, MAX_NOTES, STATEMENT_ROOM,
+    WORKING,
+};
+pub use context::{CovariateKind, Handed, ModelContext, PkTemplate};
 pub use refusal::{Fault, Refusal};
+pub use resolved::{resolve, CovariateEffectSpec, Note, Resolved, Unresolved};
 pub use tree::{
     AbsorptionMode, Counts, CovariateEffect, CovariateOp, DepotMode, EliminationMode, Feature, Item, LagtimeMode, MetaboliteMode, Mode,
     Modes, Operand, PdMode, PeripheralKind, ProductionMode, Statement, TransitCounts, VariabilityEffect, VariabilityLevel,
@@ -53,76 +63,108 @@ pub fn statement(text: &[u8], index: u32) -> Result<Statement, Refusal> {
     Ok(numbers::statement_of(&numbers[..written], text))
 }
 
-/// An accepted space, held as its canonical text. That has the same statements as the text it was parsed from (proved of the calls), so two
-/// spaces are equal exactly where their statements are.
-#[derive(Debug, Clone, PartialEq, Eq, Hash, Default)]
+/// All statements of a text, in their order.
+pub fn statements(text: &[u8]) -> Result<Vec<Statement>, Refusal> {
+    // A canonical text is never longer than its text. In it `;` stands between statements and nowhere else, and taking each alone spares
+    // reading the whole text for each.
+    let mut out = vec![0; text.len().min(MAX_TEXT)];
+    let length = print_into(text, &mut out)?;
+    out[..length].split(|&byte| byte == b';').filter(|part| !part.is_empty()).map(|part| statement(part, 0)).collect()
+}
+
+/// An accepted space: its statements, and the text they were read from. Two spaces are equal exactly where their statements are.
+#[derive(Debug, Clone, Default)]
 pub struct Mfl {
-    canonical: String,
+    text: Vec<u8>,
+    statements: Vec<Statement>,
+    canonical: OnceLock<String>,
 }
 
 impl Mfl {
     /// Reads a text, of any bytes.
     pub fn parse(text: impl AsRef<[u8]>) -> Result<Mfl, Refusal> {
         let text = text.as_ref();
-        // A canonical text is never longer than its text, and a longer text than this is refused.
-        let mut out = vec![0; text.len().min(MAX_TEXT)];
-        let length = print_into(text, &mut out)?;
-        out.truncate(length);
-        let canonical = String::from_utf8(out).expect("a canonical text is ASCII");
-        Ok(Mfl { canonical })
+        let statements = statements(text)?;
+        Ok(Mfl { text: text.to_vec(), statements, canonical: OnceLock::new() })
+    }
+
+    /// The space of these statements: they are printed and read back. What is not accepted is refused as a text is; and a name that does not
+    /// read back as itself, such as `CL)` or `#`, by [`Fault::UnexpectedToken`] at 0.
+    pub fn from_statements(statements: Vec<Statement>) -> Result<Mfl, Refusal> {
+        let lines: Vec<String> = statements.iter().map(Statement::to_string).collect();
+        let space = Mfl::parse(lines.join(";"))?;
+        if space.statements != statements {
+            return Err(Refusal { fault: Fault::UnexpectedToken, place: 0 });
+        }
+        Ok(space)
     }
 
     /// The canonical text.
     pub fn render(&self) -> String {
-        self.canonical.clone()
+        self.as_str().to_string()
     }
 
-    /// The canonical text, lent.
+    /// The canonical text, lent. It is printed once.
     pub fn as_str(&self) -> &str {
-        &self.canonical
+        self.canonical.get_or_init(|| {
+            // A canonical text is never longer than its text.
+            let mut out = vec![0; self.text.len()];
+            let length = print_into(&self.text, &mut out).expect("the text was accepted");
+            out.truncate(length);
+            String::from_utf8(out).expect("a canonical text is ASCII")
+        })
+    }
+
+    /// The text that was read.
+    pub fn as_bytes(&self) -> &[u8] {
+        &self.text
     }
 
     /// The number of statements.
     pub fn len(&self) -> usize {
-        count(self.canonical.as_bytes()).expect("a canonical text is accepted")
+        self.statements.len()
     }
 
     pub fn is_empty(&self) -> bool {
-        self.canonical.is_empty()
+        self.statements.is_empty()
     }
 
     /// The statement at an index, from zero.
-    pub fn statement(&self, index: usize) -> Option<Statement> {
-        self.parts().nth(index).map(only_statement)
+    pub fn statement(&self, index: usize) -> Option<&Statement> {
+        self.statements.get(index)
     }
 
     /// The statements in their order.
-    pub fn statements(&self) -> Vec<Statement> {
-        self.parts().map(only_statement).collect()
-    }
-
-    /// Each statement's canonical text. In a canonical text `;` stands between statements and nowhere else, and taking each part alone spares
-    /// reading the whole text for each.
-    fn parts(&self) -> impl Iterator<Item = &str> {
-        self.canonical.split(';').filter(|part| !part.is_empty())
+    pub fn statements(&self) -> &[Statement] {
+        &self.statements
     }
 
     /// The features in their order, each LET skipped.
-    pub fn features(&self) -> impl Iterator<Item = Feature> {
-        self.statements().into_iter().filter_map(|statement| match statement {
+    pub fn features(&self) -> impl Iterator<Item = &Feature> {
+        self.statements.iter().filter_map(|statement| match statement {
             Statement::Feature(feature) => Some(feature),
             Statement::Let { .. } => None,
         })
     }
 }
 
-fn only_statement(part: &str) -> Statement {
-    statement(part.as_bytes(), 0).expect("a statement's canonical text is accepted")
+impl PartialEq for Mfl {
+    fn eq(&self, other: &Mfl) -> bool {
+        self.statements == other.statements
+    }
+}
+
+impl Eq for Mfl {}
+
+impl Hash for Mfl {
+    fn hash<H: Hasher>(&self, state: &mut H) {
+        self.statements.hash(state);
+    }
 }
 
 impl fmt::Display for Mfl {
     fn fmt(&self, f: &mut fmt::Formatter<'_>) -> fmt::Result {
-        f.write_str(&self.canonical)
+        f.write_str(self.as_str())
     }
 }
 

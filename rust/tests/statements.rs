@@ -105,9 +105,8 @@ fn largest_statement() {
     let text = format!("COVARIATE?([{list}],[{list}],[lin,piece_lin,exp,pow,cat,cat2,custom])");
     let mut out = [0; STATEMENT_ROOM];
     assert_eq!(dumachik::statement_into(text.as_bytes(), 0, &mut out), Ok(STATEMENT_ROOM));
-    let [Statement::Feature(Feature::Covariate { parameters: Operand::Names(parameters), effects, .. })] =
-        &Mfl::parse(text).unwrap().statements()[..]
-    else {
+    let space = Mfl::parse(text).unwrap();
+    let [Statement::Feature(Feature::Covariate { parameters: Operand::Names(parameters), effects, .. })] = space.statements() else {
         panic!("not a COVARIATE")
     };
     assert_eq!(parameters.len(), 64);
@@ -146,4 +145,29 @@ fn words() {
     assert_eq!(CovariateEffect::ALL.iter().filter(|effect| effect.is_categorical()).count(), 2);
     assert!(Operand::Wildcard.is_symbolic() && !Operand::Names(names(&["CL"])).is_symbolic());
     assert_eq!((CovariateOp::Multiply.label(), CovariateOp::Add.label()), ("*", "+"));
+}
+
+/// A statement prints as its canonical text, and a space of statements is the one that they were read from.
+#[test]
+fn built() {
+    let text = "LET(S,[WT,007]);LET(T,x);ABSORPTION([FO,SEQ-ZO-FO]);ELIMINATION(*);PERIPHERALS(0..2,[DRUG,MET]);TRANSITS([1,3],*);TRANSITS(N);\
+                LAGTIME(ON);COVARIATE?(@PK,[WT,AGE],[lin,cat2],+);COVARIATE(CL,*,exp);ALLOMETRY(WT,70.0);ALLOMETRY(WT);DIRECTEFFECT(STEP);\
+                EFFECTCOMP(*);INDIRECTEFFECT(LINEAR,[PRODUCTION,DEGRADATION]);METABOLITE(PSC);IIV?(*,[EXP,RE_LOG]);IOV(CL,PROP);\
+                COVARIANCE?([IIV,IOV],[CL,V]);PERIPHERALS([3]);PERIPHERALS(7)";
+    let space = Mfl::parse(text).unwrap();
+    let printed: Vec<String> = space.statements().iter().map(|statement| statement.to_string()).collect();
+    assert_eq!(printed.join(";"), text);
+    assert_eq!(Mfl::from_statements(space.statements().to_vec()).unwrap(), space);
+    assert_eq!(Mfl::from_statements(Vec::new()).unwrap(), Mfl::default());
+
+    // what a text cannot say is refused
+    let lag = |modes| Mfl::from_statements(vec![Statement::Feature(Feature::Lagtime(Modes::List(modes)))]);
+    assert_eq!(lag(Vec::new()).unwrap_err().number(), 9);
+    assert_eq!(lag(vec![LagtimeMode::On, LagtimeMode::On]).unwrap_err().number(), 3);
+    for name in ["CL)", "", "A B", "CL#", "é", "CL;LAGTIME(ON)"] {
+        let feature = Feature::Iiv { optional: false, parameters: Operand::Names(names(&[name])), effects: Modes::Wildcard };
+        assert!(Mfl::from_statements(vec![Statement::Feature(feature)]).is_err(), "{name}");
+    }
+    let many = Feature::Peripherals { counts: Counts::Single(65), kind: None };
+    assert_eq!(Mfl::from_statements(vec![Statement::Feature(many)]).unwrap_err().number(), 4);
 }

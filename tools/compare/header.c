@@ -41,6 +41,41 @@ static void states(const char *text, uint32_t index, size_t room, uint64_t answe
     check(text, memcmp(out, held, sizeof out) != 0, 0);
 }
 
+/* Document 01's K: parameters CL, V, KA; IIV CL, V; template cl=CL, v=V, ka=KA; WT continuous, SEX categorical. */
+static const char block[] = "CLVKACLVclCLvVkaKAWTSEXWTSEX";
+static const uint32_t lists[] = {3,  2, 3,  2, 2, 1, 1, 0, 2, 2, 1,  3, 2,  5, 2,  7, 1,  8, 2, 10,
+                                 2, 12, 1, 13, 1, 14, 2, 16, 2, 18, 2, 0, 20, 3, 1, 23, 2, 25, 3};
+
+/* Resolve with K, and buffers of these lengths with a pattern behind them. */
+static void resolves(const char *text, size_t ground_room, size_t effects_room, size_t notes_room, size_t work_length, uint64_t answer,
+                     const char *ground, const struct mfl_effect *effects, const struct mfl_note *notes) {
+    static uint8_t out[MFL_GROUND_ROOM], held[MFL_GROUND_ROOM];
+    static struct mfl_effect effect_out[MFL_EFFECT_ROOM], effect_held[MFL_EFFECT_ROOM];
+    static struct mfl_note note_out[MFL_NOTE_ROOM], note_held[MFL_NOTE_ROOM];
+    static uint32_t work[MFL_WORKING], work_held[MFL_WORKING];
+    memset(out, 0xA5, sizeof out);
+    memset(held, 0xA5, sizeof held);
+    memset(effect_out, 0xA5, sizeof effect_out);
+    memset(effect_held, 0xA5, sizeof effect_held);
+    memset(note_out, 0xA5, sizeof note_out);
+    memset(note_held, 0xA5, sizeof note_held);
+    memset(work, 0xA5, sizeof work);
+    memset(work_held, work_length < MFL_WORKING ? 0xA5 : 0, sizeof work_held);
+    if (!MFL_REFUSAL(answer)) {
+        memcpy(held, ground, strlen(ground));
+        memcpy(effect_held, effects, MFL_EFFECTS(answer) * sizeof *effects);
+        memcpy(note_held, notes, MFL_NOTES(answer) * sizeof *notes);
+    }
+    check(text,
+          mfl_resolve(bytes(text), strlen(text), bytes(block), sizeof block - 1, lists, sizeof lists / sizeof *lists, out, ground_room,
+                      effect_out, effects_room, note_out, notes_room, work, work_length),
+          answer);
+    check(text, memcmp(out, held, sizeof out) != 0, 0);
+    check(text, memcmp(effect_out, effect_held, sizeof effect_out) != 0, 0);
+    check(text, memcmp(note_out, note_held, sizeof note_out) != 0, 0);
+    check(text, memcmp(work, work_held, sizeof work) != 0, 0);
+}
+
 int main(void) {
     static uint8_t blanks[MFL_TEXT_LIMIT + 1];
     memset(blanks, ' ', sizeof blanks);
@@ -76,6 +111,21 @@ int main(void) {
     states(space, 3, MFL_STATEMENT_ROOM, refusal(20, 3), NULL);
     states("let(x, [1.5, a])", 0, 13, 13, (uint32_t[]){14, 0, 8, 4, 1, 12, 2, 1, 8, 3, 0, 13, 1});
     states("LAGTIME(MAYBE)", 7, MFL_STATEMENT_ROOM, refusal(10, 8), NULL);
+
+    const char *merged = "COVARIATE(@PK,WT,lin);COVARIATE?(CL,WT,exp);COVARIANCE(IIV,CL)";
+    const char *ground = "COVARIATE(V,WT,lin);COVARIATE(KA,WT,lin);COVARIATE?(CL,WT,exp)";
+    const struct mfl_effect effects[] = {{1, 0, 0, 0, 0}, {2, 0, 0, 0, 0}, {0, 0, 2, 0, 1}};
+    const struct mfl_note notes[] = {{0, 2}};
+    uint64_t given = strlen(ground) | (uint64_t)3 << 16 | (uint64_t)1 << 40;
+    resolves(merged, MFL_GROUND_ROOM, MFL_EFFECT_ROOM, MFL_NOTE_ROOM, MFL_WORKING, given, ground, effects, notes);
+    resolves(merged, strlen(ground), 3, 1, MFL_WORKING, given, ground, effects, notes);
+    resolves(merged, strlen(ground) - 1, 3, 1, MFL_WORKING, refusal(19, 0), NULL, NULL, NULL);
+    resolves(merged, strlen(ground), 2, 1, MFL_WORKING, refusal(19, 0), NULL, NULL, NULL);
+    resolves(merged, strlen(ground), 3, 0, MFL_WORKING, refusal(19, 0), NULL, NULL, NULL);
+    resolves("FOO(", 0, 0, 0, MFL_WORKING - 1, refusal(19, 0), NULL, NULL, NULL);
+    resolves("FOO(", 0, 0, 0, MFL_WORKING, refusal(3, 4), NULL, NULL, NULL);
+    resolves("COVARIATE(CL,WT,lin);COVARIATE(CL,WT,exp)", 0, 0, 0, MFL_WORKING, refusal(17, 1), NULL, NULL, NULL);
+    resolves("", 0, 0, 0, MFL_WORKING, 0, "", effects, notes);
 
     printf("%d passed, %d failed\n", passed, failed);
     return failed != 0;

@@ -1,4 +1,4 @@
-//! What the comparison and the benchmark share: the source's own mfl.rs, and texts.
+//! What the comparison and the benchmark share: the source's own mfl.rs and resolve.rs, and texts.
 
 #[cfg(not(without_source))]
 include!(concat!(env!("OUT_DIR"), "/source.rs"));
@@ -12,6 +12,6 @@ pub mod texts;
 
 /// Says that the source is missing; the status is 3.
 pub fn without_source() -> ! {
-    eprintln!("not found: {} (set DUMACHIK_SHARED to the folder that holds it)", env!("SOURCE"));
+    eprintln!("not found: the source's modules in {} (set DUMACHIK_SHARED to the folder that holds them)", env!("SOURCE"));
     std::process::exit(3);
 }

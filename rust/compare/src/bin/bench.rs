@@ -20,8 +20,9 @@ mod times {
     use std::hint::black_box;
     use std::time::{Duration, Instant};
 
-    use compare::{mfl, MFL_RS};
-    use dumachik::{count, print_into};
+    use compare::{mfl, resolve, MFL_RS};
+    use dumachik::{count, print_into, resolve_into, Buffers, Fault};
+    use ferx_core::CovariateKind;
 
     /// A round repeats a call for about this long.
     const ROUND: Duration = Duration::from_millis(2);
@@ -51,12 +52,17 @@ mod times {
             rows.push(Row::new("Print, the source's parse and render beside it", name, text, parse_and_render, print(text.len())));
         }
         for (name, text) in texts.iter().filter(|(_, text)| accepted(text)) {
-            let tree = |text: &str| !dumachik::Mfl::parse(text).is_ok_and(|space| space.statements().is_empty());
+            let tree = |text: &str| !dumachik::Mfl::parse(text).is_ok_and(|space| space.is_empty());
             rows.push(Row::new("A tree of every statement, the source's parse beside it", name, text, parse, tree));
         }
         for size in [1024, 4096, 16384] {
             let head = "Print as the text grows, the source's parse and render beside it";
             rows.push(Row::new(head, "statements", &of_size(size), parse_and_render, print(size)));
+        }
+
+        for (name, text, context) in resolvable() {
+            let head = "Resolve, the source's parse, resolve and render beside it";
+            rows.push(Row::new(head, name, &text, resolved_by_source(&context), resolved(&context)));
         }
 
         // A round is one turn of every row, so that the rounds of a row are spread over the whole run: a machine that others use as well is
@@ -131,6 +137,76 @@ mod times {
 
     fn parse_and_render(text: &str) -> bool {
         black_box(mfl::Mfl::parse(text).map(|space| space.render())).is_ok()
+    }
+
+    /// Texts with contexts: the header's space with document 01's K and what else the space names; 80 COVARIATEs with symbols, with K; the most
+    /// effects that a ground text can have; and as many as may be brought, which the source accepts and which have too many pairs for us.
+    fn resolvable() -> Vec<(&'static str, String, resolve::ModelContext)> {
+        let words = |prefix: &str, n: usize| (0..n).map(|i| format!("{prefix}{i}")).collect::<Vec<_>>();
+        let kind = |name: &str| if name == "SEX" { CovariateKind::Categorical } else { CovariateKind::Continuous };
+        let context = |parameters: Vec<String>, bindings: &[(&str, &str)], covariates: Vec<String>| resolve::ModelContext {
+            iiv: parameters.iter().take(2).cloned().collect(),
+            template: Some(resolve::PkTemplate {
+                keyword: "pk".into(),
+                name: "one_cpt_oral".into(),
+                bindings: bindings.iter().map(|(role, name)| (role.to_string(), name.to_string())).collect(),
+            }),
+            covariates: Some(covariates.iter().map(|name| (name.clone(), kind(name))).collect()),
+            data_covariates: covariates,
+            parameters,
+        };
+        let names = |text: &str| text.split(' ').map(str::to_string).collect::<Vec<_>>();
+        let k = context(names("CL V KA"), &[("cl", "CL"), ("v", "V"), ("ka", "KA")], names("WT SEX"));
+        let header_k = context(names("CL V KA MAT Q"), &[("cl", "CL"), ("v", "V"), ("ka", "KA")], names("WT SEX AGE CRCL"));
+        let symbols = "COVARIATE?(@PK,@CONTINUOUS,[lin,exp]);COVARIATE?(@IIV,@CATEGORICAL,cat)\n".repeat(40);
+        let wide = context(words("P", 32), &[("cl", "P0")], words("C", 16));
+        let list = |names: &[String]| format!("[{}]", names.join(","));
+        let every = |parameters: &[String], forms: &str| format!("COVARIATE?({},{},{forms})", list(parameters), list(&wide.all_covariates()));
+        let distinct = every(&wide.parameters, "[lin,exp,pow,piece_lin]");
+        let most = every(&wide.parameters[..16], "[lin,piece_lin,exp,pow,cat,cat2,custom]");
+        let columns = resolve::ModelContext { covariates: None, ..wide.clone() };
+        vec![
+            ("the space in mfl.rs's header", header_space(), header_k),
+            ("80 COVARIATEs with symbols", symbols, k),
+            ("1,792 effects in 256 groups, the most", most, columns),
+            ("2,048 distinct effects, refused by 18", distinct, wide),
+        ]
+    }
+
+    fn resolved_by_source(context: &resolve::ModelContext) -> impl FnMut(&str) -> bool {
+        let context = context.clone();
+        move |text| {
+            let answer = mfl::Mfl::parse(text).and_then(|space| resolve::resolve(&space, &context));
+            black_box(answer.map(|resolved| (resolved.mfl.render(), resolved))).is_ok()
+        }
+    }
+
+    /// Resolve into buffers of full size.
+    fn resolved(context: &resolve::ModelContext) -> impl FnMut(&str) -> bool {
+        let ours = dumachik::ModelContext {
+            parameters: context.parameters.clone(),
+            iiv: context.iiv.clone(),
+            template: context.template.as_ref().map(|template| dumachik::PkTemplate {
+                keyword: template.keyword.clone(),
+                name: template.name.clone(),
+                bindings: template.bindings.clone(),
+            }),
+            covariates: context.covariates.as_ref().map(|declared| declared.iter().map(|(name, kind)| (name.clone(), kind_of(*kind))).collect()),
+            data_covariates: context.data_covariates.clone(),
+        };
+        let handed = ours.handed();
+        let mut buffers = Buffers::default();
+        move |text| {
+            let answer = resolve_into(text.as_bytes(), &handed.block, &handed.lists, black_box(&mut buffers));
+            answer.map_or_else(|refusal| refusal.fault == Fault::TooLarge, |lengths| lengths.ground > 0)
+        }
+    }
+
+    fn kind_of(kind: CovariateKind) -> dumachik::CovariateKind {
+        match kind {
+            CovariateKind::Continuous => dumachik::CovariateKind::Continuous,
+            CovariateKind::Categorical => dumachik::CovariateKind::Categorical,
+        }
     }
 
     /// The space that the header comment of mfl.rs shows.
