@@ -32,7 +32,8 @@ fn main() {
     println!("cargo::rerun-if-changed={}", source.display());
     let text = fs::read_to_string(&source).unwrap_or_default();
     let types = between(&text, "/// The absorption a candidate has.", "/// One point of the structural space.");
-    let function = between(&text, "/// The structural features a resolved MFL space names", "/// Pharmpy's `least_number_of_transformations`");
+    let function =
+        between(&text, "/// The structural features a resolved MFL space names", "/// Pharmpy's `least_number_of_transformations`");
     fs::write(out.join("caller.rs"), format!("{types}\n{function}")).expect("OUT_DIR can be written");
 }
 

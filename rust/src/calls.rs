@@ -139,10 +139,8 @@ pub fn resolve_into(text: &[u8], block: &[u8], lists: &[u32], buffers: &mut Buff
     };
     match refused(answer) {
         Some(refusal) => Err(refusal),
-        None => Ok(Lengths {
-            ground: (answer & 0xffff) as usize,
-            effects: (answer >> 16 & 0xffff) as usize,
-            notes: (answer >> 40) as usize,
-        }),
+        None => {
+            Ok(Lengths { ground: (answer & 0xffff) as usize, effects: (answer >> 16 & 0xffff) as usize, notes: (answer >> 40) as usize })
+        }
     }
 }

@@ -75,10 +75,8 @@ impl error::Error for Unresolved {}
 pub fn resolve(mfl: &Mfl, ctx: &ModelContext) -> Result<Resolved, Unresolved> {
     let handed = ctx.handed();
     let mut buffers = Buffers::default();
-    let lengths = resolve_into(mfl.as_bytes(), &handed.block, &handed.lists, &mut buffers).map_err(|refusal| Unresolved {
-        refusal,
-        statement: refusal.statement().and_then(|index| mfl.statements().get(index).cloned()),
-    })?;
+    let lengths = resolve_into(mfl.as_bytes(), &handed.block, &handed.lists, &mut buffers)
+        .map_err(|refusal| Unresolved { refusal, statement: refusal.statement().and_then(|index| mfl.statements().get(index).cloned()) })?;
     let covariates = ctx.all_covariates();
     let effect = |effect: &Effect| CovariateEffectSpec {
         parameter: ctx.parameters[usize::from(effect.parameter)].clone(),

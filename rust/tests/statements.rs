@@ -150,7 +150,8 @@ fn words() {
 /// A statement prints as its canonical text, and a space of statements is the one that they were read from.
 #[test]
 fn built() {
-    let text = "LET(S,[WT,007]);LET(T,x);ABSORPTION([FO,SEQ-ZO-FO]);ELIMINATION(*);PERIPHERALS(0..2,[DRUG,MET]);TRANSITS([1,3],*);TRANSITS(N);\
+    let text =
+        "LET(S,[WT,007]);LET(T,x);ABSORPTION([FO,SEQ-ZO-FO]);ELIMINATION(*);PERIPHERALS(0..2,[DRUG,MET]);TRANSITS([1,3],*);TRANSITS(N);\
                 LAGTIME(ON);COVARIATE?(@PK,[WT,AGE],[lin,cat2],+);COVARIATE(CL,*,exp);ALLOMETRY(WT,70.0);ALLOMETRY(WT);DIRECTEFFECT(STEP);\
                 EFFECTCOMP(*);INDIRECTEFFECT(LINEAR,[PRODUCTION,DEGRADATION]);METABOLITE(PSC);IIV?(*,[EXP,RE_LOG]);IOV(CL,PROP);\
                 COVARIANCE?([IIV,IOV],[CL,V]);PERIPHERALS([3]);PERIPHERALS(7)";

@@ -139,7 +139,7 @@ mod times {
         black_box(mfl::Mfl::parse(text).map(|space| space.render())).is_ok()
     }
 
-    /// Texts with contexts: the header's space with document 01's K and what else the space names; 80 COVARIATEs with symbols, with K; the most
+    /// Texts with contexts: the header's space and 80 COVARIATEs with symbols, with document 01's K and AGE, which the space names; the most
     /// effects that a ground text can have; and as many as may be brought, which the source accepts and which have too many pairs for us.
     fn resolvable() -> Vec<(&'static str, String, resolve::ModelContext)> {
         let words = |prefix: &str, n: usize| (0..n).map(|i| format!("{prefix}{i}")).collect::<Vec<_>>();
@@ -156,17 +156,17 @@ mod times {
             parameters,
         };
         let names = |text: &str| text.split(' ').map(str::to_string).collect::<Vec<_>>();
-        let k = context(names("CL V KA"), &[("cl", "CL"), ("v", "V"), ("ka", "KA")], names("WT SEX"));
-        let header_k = context(names("CL V KA MAT Q"), &[("cl", "CL"), ("v", "V"), ("ka", "KA")], names("WT SEX AGE CRCL"));
-        let symbols = "COVARIATE?(@PK,@CONTINUOUS,[lin,exp]);COVARIATE?(@IIV,@CATEGORICAL,cat)\n".repeat(40);
+        let k = context(names("CL V KA"), &[("cl", "CL"), ("v", "V"), ("ka", "KA")], names("WT SEX AGE"));
+        let symbols = "COVARIATE?(@PK,@CONTINUOUS,*);COVARIATE?(@IIV,@CATEGORICAL,*)\n".repeat(40);
         let wide = context(words("P", 32), &[("cl", "P0")], words("C", 16));
         let list = |names: &[String]| format!("[{}]", names.join(","));
-        let every = |parameters: &[String], forms: &str| format!("COVARIATE?({},{},{forms})", list(parameters), list(&wide.all_covariates()));
+        let every =
+            |parameters: &[String], forms: &str| format!("COVARIATE?({},{},{forms})", list(parameters), list(&wide.all_covariates()));
         let distinct = every(&wide.parameters, "[lin,exp,pow,piece_lin]");
         let most = every(&wide.parameters[..16], "[lin,piece_lin,exp,pow,cat,cat2,custom]");
         let columns = resolve::ModelContext { covariates: None, ..wide.clone() };
         vec![
-            ("the space in mfl.rs's header", header_space(), header_k),
+            ("the space in mfl.rs's header", header_space(), k.clone()),
             ("80 COVARIATEs with symbols", symbols, k),
             ("1,792 effects in 256 groups, the most", most, columns),
             ("2,048 distinct effects, refused by 18", distinct, wide),
@@ -191,7 +191,10 @@ mod times {
                 name: template.name.clone(),
                 bindings: template.bindings.clone(),
             }),
-            covariates: context.covariates.as_ref().map(|declared| declared.iter().map(|(name, kind)| (name.clone(), kind_of(*kind))).collect()),
+            covariates: context
+                .covariates
+                .as_ref()
+                .map(|declared| declared.iter().map(|(name, kind)| (name.clone(), kind_of(*kind))).collect()),
             data_covariates: context.data_covariates.clone(),
         };
         let handed = ours.handed();

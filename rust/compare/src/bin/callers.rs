@@ -18,8 +18,8 @@ macro_rules! caller {
         mod $name {
             use std::fmt;
 
-            use $mfl as mfl;
             use mfl::{AbsorptionMode, DepotMode, EliminationMode, Feature, LagtimeMode, Mfl, Mode as _, TransitCounts};
+            use $mfl as mfl;
 
             include!(concat!(env!("OUT_DIR"), "/caller.rs"));
 
