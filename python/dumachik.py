@@ -1,0 +1,306 @@
+"""MFL search spaces, read, printed and resolved by Dumachik's proved calls.
+
+    >>> import dumachik
+    >>> dumachik.render(" peripherals( 007 ) # x")
+    'PERIPHERALS(7)'
+    >>> model = dumachik.Context(["CL", "V"], covariates={"WT": "continuous", "SEX": "categorical"})
+    >>> dumachik.resolve("COVARIATE?([CL,V], @CONTINUOUS, [lin,pow])", model).ground
+    'COVARIATE?(CL,WT,[lin,pow]);COVARIATE?(V,WT,[lin,pow])'
+
+One file over a shared library, with ctypes alone. `tools/shared-library` makes the library; it is looked for beside this file and in the
+repository's target/staticlib, or where DUMACHIK_SO says.
+"""
+import ctypes
+import os
+import pathlib
+from typing import NamedTuple
+
+__all__ = ["count", "render", "statements", "resolve", "Context", "Effect", "Note", "Refusal", "Resolved", "Statement", "Symbol"]
+
+# The limits that texts and answers have.
+MAX_TEXT = 16384
+MAX_EFFECTS = 2048
+MAX_NOTES = 257
+STATEMENT_ROOM = 272
+WORKING = 6656
+
+MEANINGS = {
+    1: "text over 16,384 bytes",
+    2: "byte that starts no token",
+    3: "token not allowed, or end of text",
+    4: "count not a whole 32-bit number, or above 64",
+    5: "range backwards",
+    6: "unknown keyword",
+    7: "`?` on a feature without it",
+    8: "number of arguments",
+    9: "argument of a wrong kind, empty array, word in an array of counts, second argument after N, mandatory `*` effect",
+    10: "unknown mode",
+    11: "any token but a separator after 256 statements; a 65th word or number in an array",
+    12: "context not as it must be",
+    13: "second LET of a key",
+    14: "unknown symbol, or one whose template or block is missing",
+    15: "name not in the model",
+    16: "effect against the covariate's kind",
+    17: "pair forced by two statements",
+    18: "over 2,048 effects before merging; over 256 ground statements; ground text over 16,384 bytes",
+    19: "an output shorter than its answer; a working buffer shorter than the call's stated length",
+    20: "statement index not below the count",
+}
+# Those whose place is the index of a statement, and those that have none but 0.
+OF_STATEMENTS = (13, 14, 15, 16, 17, 20)
+OF_ALL = (1, 12, 18, 19)
+
+VARIABILITY = ("EXP", "ADD", "PROP", "LOG", "RE_LOG")
+PD = ("LINEAR", "EMAX", "SIGMOID", "STEP", "LOGLIN")
+EFFECTS = ("lin", "piece_lin", "exp", "pow", "cat", "cat2", "custom")
+# Each keyword with its arguments: the family of an argument that is modes, None for any other.
+KEYWORDS = (
+    ("ABSORPTION", ("INST", "FO", "ZO", "SEQ-ZO-FO", "WEIBULL")),
+    ("ELIMINATION", ("FO", "ZO", "MM", "MIX-FO-MM")),
+    ("PERIPHERALS", None, ("DRUG", "MET")),
+    ("TRANSITS", None, ("DEPOT", "NODEPOT")),
+    ("LAGTIME", ("OFF", "ON")),
+    ("COVARIATE", None, None, EFFECTS, None),
+    ("ALLOMETRY", None, None),
+    ("DIRECTEFFECT", PD),
+    ("EFFECTCOMP", PD),
+    ("INDIRECTEFFECT", PD, ("PRODUCTION", "DEGRADATION")),
+    ("METABOLITE", ("BASIC", "PSC")),
+    ("IIV", None, VARIABILITY),
+    ("IOV", None, VARIABILITY),
+    ("COVARIANCE", ("IIV", "IOV"), None),
+    ("LET", None, None),
+)
+
+
+class Refusal(ValueError):
+    """Why a call refuses: `number` and `place` as docs/CALLS.md has them.
+
+    `line` and `column`, both from 1, are those of a place in the text, a column a byte, and None where there is none; where the place is the
+    index of a statement, `statement` is that index.
+    """
+
+    def __init__(self, number, place, text):
+        self.number, self.place = number, place
+        self.line = self.column = self.statement = None
+        where = ""
+        if number in OF_STATEMENTS:
+            self.statement = place
+            where = f" (statement {place})"
+        elif number not in OF_ALL:
+            before = text[:place]
+            self.line, self.column = before.count(b"\n") + 1, place - (before.rfind(b"\n") + 1) + 1
+            where = f" (line {self.line}, column {self.column})"
+        super().__init__(f"{number} at {place}{where}: {MEANINGS[number]}")
+
+
+class Symbol(str):
+    """The name of a symbol, without its `@`."""
+
+    def __repr__(self):
+        return f"@{self!s}"
+
+
+class Statement(NamedTuple):
+    """A statement: its keyword, whether it has a `?`, and its arguments.
+
+    Modes are `"*"` or a tuple of labels; counts a number, a range with both ends, a tuple of numbers or `"N"`; parameters and covariates
+    `"*"`, a Symbol, or a tuple of names; an operator `"*"` or `"+"`; what was left out None. LET has its name and a tuple of its values.
+    """
+
+    keyword: str
+    optional: bool
+    arguments: tuple
+
+
+class Context(NamedTuple):
+    """A model's names. `template` has pairs of a role and a variable, `covariates` the kind of each declared covariate ("continuous" or
+    "categorical"), as a mapping or as pairs; None where there is no template, or no declaration block."""
+
+    parameters: object
+    iiv: object = ()
+    template: object = None
+    covariates: object = None
+    columns: object = ()
+
+
+class Effect(NamedTuple):
+    parameter: str
+    covariate: str
+    effect: str
+    operator: str
+    optional: bool
+
+
+class Note(NamedTuple):
+    """`reason` is "dropped", with the index of the statement, or "additive"."""
+
+    reason: str
+    statement: int
+
+
+class Resolved(NamedTuple):
+    ground: str
+    effects: list
+    notes: list
+
+
+class _Effect(ctypes.Structure):
+    _fields_ = [(name, ctypes.c_uint8) for name in ("parameter", "covariate", "form", "operator", "optional")]
+
+
+class _Note(ctypes.Structure):
+    _fields_ = [("reason", ctypes.c_uint8), ("index", ctypes.c_uint8)]
+
+
+def _load():
+    here = pathlib.Path(__file__).resolve().parent
+    named = os.environ.get("DUMACHIK_SO")
+    places = [pathlib.Path(named)] if named else [here / "libdumachik.so", here.parent / "target" / "staticlib" / "libdumachik.so"]
+    found = next((place for place in places if place.exists()), None)
+    if found is None:
+        raise ImportError(f"not found: {places[-1]} (tools/shared-library makes it; DUMACHIK_SO names another)")
+    library = ctypes.CDLL(str(found))
+    text, size = ctypes.c_char_p, ctypes.c_size_t
+    numbers = ctypes.POINTER(ctypes.c_uint32)
+    signatures = {
+        "mfl_count": [text, size],
+        "mfl_print": [text, size, text, size],
+        "mfl_statement": [text, size, ctypes.c_uint32, numbers, size],
+        "mfl_resolve": [text, size, text, size, numbers, size, text, size, ctypes.POINTER(_Effect), size, ctypes.POINTER(_Note), size]
+        + [numbers, size],
+    }
+    for name, arguments in signatures.items():
+        call = getattr(library, name)
+        call.argtypes, call.restype = arguments, ctypes.c_uint64
+    return library
+
+
+_library = _load()
+
+
+def _bytes(text):
+    return text.encode("utf-8") if isinstance(text, str) else bytes(text)
+
+
+def _answered(answer, text):
+    """An answer that is no refusal."""
+    if number := answer >> 32 & 0xFF:
+        raise Refusal(number, answer & 0xFFFFFFFF, text)
+    return answer
+
+
+def count(text):
+    """The number of statements of a text."""
+    text = _bytes(text)
+    return _answered(_library.mfl_count(text, len(text)), text)
+
+
+def render(text):
+    """The canonical text."""
+    text = _bytes(text)
+    # a canonical text is never longer than its text
+    out = ctypes.create_string_buffer(max(1, min(len(text), MAX_TEXT)))
+    length = _answered(_library.mfl_print(text, len(text), out, min(len(text), MAX_TEXT)), text)
+    return out.raw[:length].decode("ascii")
+
+
+def statements(text):
+    """The statements of a text, in their order."""
+    text = _bytes(text)
+    out = (ctypes.c_uint32 * STATEMENT_ROOM)()
+    found = []
+    for index in range(count(text)):
+        written = _answered(_library.mfl_statement(text, len(text), index, out, STATEMENT_ROOM), text)
+        found.append(_statement(iter(out[:written]), text))
+    return found
+
+
+def _statement(numbers, text):
+    keyword, *families = KEYWORDS[next(numbers)]
+    optional = next(numbers) == 1
+    return Statement(keyword, optional, tuple(_argument(numbers, family, text) for family in families))
+
+
+def _argument(numbers, family, text):
+    """An argument, by the number of its kind, as include/dumachik.h has them."""
+
+    def name():
+        offset, length = next(numbers), next(numbers)
+        return text[offset : offset + length].decode("ascii")
+
+    def value():
+        next(numbers)  # whether it is a word or a number
+        return name()
+
+    def listed(entry):
+        return tuple(entry() for _ in range(next(numbers)))
+
+    def inclusive():
+        first, last = next(numbers), next(numbers)
+        return range(first, last + 1)
+
+    kinds = {
+        0: lambda: "*",
+        1: lambda: listed(lambda: family[next(numbers)]),
+        2: lambda: next(numbers),
+        3: inclusive,
+        4: lambda: listed(lambda: next(numbers)),
+        5: lambda: "N",
+        6: lambda: Symbol(name()),
+        7: lambda: listed(name),
+        8: name,
+        9: lambda: None,
+        10: lambda: "*",
+        11: lambda: "+",
+        12: lambda: listed(value),
+    }
+    return kinds[next(numbers)]()
+
+
+class _Names:
+    """A context as the call takes it: a block of name bytes, and one run of numbers."""
+
+    def __init__(self, context):
+        pairs = lambda entries: list(entries.items() if hasattr(entries, "items") else entries or ())
+        kinds = {"continuous": 0, "categorical": 1}
+        self.parameters, self.iiv, self.columns = list(context.parameters), list(context.iiv), list(context.columns)
+        bindings, declared = pairs(context.template), pairs(context.covariates)
+        self.covariates = self.columns if context.covariates is None else [name for name, _ in declared]
+        self.block, self.numbers = bytearray(), [len(self.parameters), len(self.iiv), len(bindings), len(declared), len(self.columns)]
+        self.numbers += [int(context.template is not None), int(context.covariates is not None)]
+        for name in self.parameters + self.iiv + [name for binding in bindings for name in binding]:
+            self.put(name)
+        for name, kind in declared:
+            self.put(name)
+            self.numbers.append(kinds[kind])
+        for name in self.columns:
+            self.put(name)
+
+    def put(self, name):
+        name = _bytes(name)
+        self.numbers += [len(self.block), len(name)]
+        self.block += name
+
+
+def resolve(text, context):
+    """The ground text, the covariate effects and the notes of a text in a context."""
+    text, names = _bytes(text), _Names(context)
+    lists = (ctypes.c_uint32 * len(names.numbers))(*names.numbers)
+    ground = ctypes.create_string_buffer(MAX_TEXT)
+    effects, notes, work = (_Effect * MAX_EFFECTS)(), (_Note * MAX_NOTES)(), (ctypes.c_uint32 * WORKING)()
+    block = bytes(names.block)
+    answer = _library.mfl_resolve(
+        text, len(text), block, len(block), lists, len(lists), ground, MAX_TEXT, effects, MAX_EFFECTS, notes, MAX_NOTES, work, WORKING
+    )
+    _answered(answer, text)
+    many = {"ground": answer & 0xFFFF, "effects": answer >> 16 & 0xFFFF, "notes": answer >> 40}
+    effect = lambda e: Effect(
+        names.parameters[e.parameter], names.covariates[e.covariate], EFFECTS[e.form], "*+"[e.operator], e.optional == 1
+    )
+    note = lambda n: Note(("dropped", "additive")[n.reason], n.index)
+    return Resolved(
+        ground.raw[: many["ground"]].decode("ascii"),
+        [effect(e) for e in effects[: many["effects"]]],
+        [note(n) for n in notes[: many["notes"]]],
+    )

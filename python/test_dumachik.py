@@ -1,0 +1,89 @@
+"""Known answers of dumachik.py. usage: python3 python/test_dumachik.py (after tools/shared-library); its last line is `N passed, M failed`."""
+import doctest
+import pathlib
+import sys
+
+sys.path.insert(0, str(pathlib.Path(__file__).resolve().parent))
+import dumachik
+from dumachik import Context, Effect, Note, Refusal, Statement, Symbol
+
+# Document 01's K.
+K = Context(
+    ["CL", "V", "KA"],
+    iiv=["CL", "V"],
+    template=[("cl", "CL"), ("v", "V"), ("ka", "KA")],
+    covariates={"WT": "continuous", "SEX": "categorical"},
+    columns=["WT", "SEX"],
+)
+passed = failed = 0
+
+
+def check(what, got, wanted):
+    global passed, failed
+    if got == wanted:
+        passed += 1
+    else:
+        failed += 1
+        print(f"{what}: got {got!r}, wanted {wanted!r}")
+
+
+def refused(what, call, *wanted):
+    """The number, the place, the line and the column of what a call refuses."""
+    try:
+        check(what, call(), wanted)
+    except Refusal as refusal:
+        check(what, (refusal.number, refusal.place, refusal.line, refusal.column, refusal.statement), wanted)
+
+
+check("the module's examples", doctest.testmod(dumachik).failed, 0)
+check("count", [dumachik.count(text) for text in ("", "LAGTIME(ON);;\n ABSORPTION(*) # é", b"# \xff")], [0, 2, 0])
+check("render", dumachik.render("let(S, [WT]); lagtime([ON,on])\nIIV?(@S, *)"), "LET(S,WT);LAGTIME(ON);IIV?(@S,*)")
+check("render, empty", dumachik.render(" # none"), "")
+
+SPACES = {
+    "ABSORPTION([FO,SEQ-ZO-FO])": Statement("ABSORPTION", False, (("FO", "SEQ-ZO-FO"),)),
+    "PERIPHERALS(0..2)": Statement("PERIPHERALS", False, (range(3), None)),
+    "PERIPHERALS([1,3],MET)": Statement("PERIPHERALS", False, ((1, 3), ("MET",))),
+    "TRANSITS(N)": Statement("TRANSITS", False, ("N", None)),
+    "TRANSITS(7,*)": Statement("TRANSITS", False, (7, "*")),
+    "COVARIATE?(@PK,[WT,AGE],[lin,cat2],+)": Statement("COVARIATE", True, (Symbol("PK"), ("WT", "AGE"), ("lin", "cat2"), "+")),
+    "COVARIATE(CL,*,exp)": Statement("COVARIATE", False, (("CL",), "*", ("exp",), "*")),
+    "ALLOMETRY(WT,70.0)": Statement("ALLOMETRY", False, ("WT", "70.0")),
+    "ALLOMETRY(WT)": Statement("ALLOMETRY", False, ("WT", None)),
+    "INDIRECTEFFECT(*,DEGRADATION)": Statement("INDIRECTEFFECT", False, ("*", ("DEGRADATION",))),
+    "IIV?(*,[EXP,RE_LOG])": Statement("IIV", True, ("*", ("EXP", "RE_LOG"))),
+    "COVARIANCE?(IIV,@PK_IIV)": Statement("COVARIANCE", True, (("IIV",), Symbol("PK_IIV"))),
+    "LET(S,[WT,007])": Statement("LET", False, ("S", ("WT", "007"))),
+}
+check("statements", dumachik.statements("\n".join(SPACES)), list(SPACES.values()))
+check("the text again", dumachik.render("\n".join(SPACES)), ";".join(SPACES))
+# every label of every family, as Print has it
+for keyword, *families in dumachik.KEYWORDS:
+    for at, family in enumerate(families):
+        for label in family or ():
+            arguments = {"PERIPHERALS": ["1"], "TRANSITS": ["1"], "COVARIATE": ["*", "*"], "IIV": ["*"], "IOV": ["*"]}.get(keyword, [])
+            arguments = arguments + [label] if keyword != "INDIRECTEFFECT" else [label, "*"] if at == 0 else ["*", label]
+            text = f"{keyword}({','.join(arguments + ['*'] * (keyword == 'COVARIANCE'))})"
+            check(text, dumachik.render(text.lower()), text)
+            check(text, dumachik.statements(text)[0].arguments[at], (label,))
+
+refused("a stray byte", lambda: dumachik.render("LAGTIME(ON)\n $"), 2, 13, 2, 2, None)
+refused("the end", lambda: dumachik.count("FOO("), 3, 4, 1, 5, None)
+refused("a count", lambda: dumachik.statements("LAGTIME(ON)\nPERIPHERALS(65)"), 4, 24, 2, 13, None)
+refused("a long text", lambda: dumachik.render(" " * 16385), 1, 0, None, None, None)
+
+check("ground", dumachik.resolve("LET(PK,[CL]);IIV(@PK_IIV,*)", K).ground, "IIV([CL,V],[EXP,ADD,PROP,LOG,RE_LOG])")
+resolved = dumachik.resolve("COVARIATE(@PK,WT,lin);COVARIATE?(CL,WT,exp,+);COVARIANCE(IIV,CL)", K)
+check("ground", resolved.ground, "COVARIATE(V,WT,lin);COVARIATE(KA,WT,lin);COVARIATE?(CL,WT,exp,+)")
+lin = lambda parameter: Effect(parameter, "WT", "lin", "*", False)
+check("effects", resolved.effects, [lin("V"), lin("KA"), Effect("CL", "WT", "exp", "+", True)])
+check("notes", resolved.notes, [Note("dropped", 2), Note("additive", 0)])
+columns = Context(["CL"], columns=["AGE"])
+check("columns", dumachik.resolve("COVARIATE(CL,*,custom)", columns).effects, [Effect("CL", "AGE", "custom", "*", False)])
+refused("forced twice", lambda: dumachik.resolve("COVARIATE(CL,WT,lin);COVARIATE(CL,WT,exp)", K), 17, 1, None, None, 1)
+refused("an unknown name", lambda: dumachik.resolve("LAGTIME(ON);IIV(Q,EXP)", K), 15, 1, None, None, 1)
+refused("no template", lambda: dumachik.resolve("IIV(@PK,EXP)", columns), 14, 0, None, None, 0)
+refused("a wrong context", lambda: dumachik.resolve("LAGTIME(ON)", Context(["CRCL.1"])), 12, 0, None, None, None)
+refused("a wrong text first", lambda: dumachik.resolve("LAGTIME(MAYBE)", Context(["CRCL.1"])), 10, 8, 1, 9, None)
+print(f"{passed} passed, {failed} failed")
+sys.exit(failed != 0)
