@@ -7,8 +7,8 @@
 -- Reordering. Where Count accepts A and D, and Statement gives each statement of A as often as of D, Resolve refuses D in a context exactly
 -- when it refuses A, and else gives the same set of effects, whatever the buffers hold, if they have full size.
 --
--- Rereading. Where Resolve gives a ground text for A in a context, Count accepts it, and Resolve gives of it in that context the same
--- bytes and the same set of effects, with no note of reason 0.
+-- Rereading. Where Resolve gives a ground text for A in a context, Count accepts it, Print gives its own bytes back, and Resolve gives of it in
+-- that context the same bytes and the same set of effects, with no note of reason 0.
 --
 -- Assumes nothing.
 use Prim.Native.Nat.{ℕ, zero, suc, _+_, _≤_}
@@ -171,6 +171,7 @@ module _ (limit : ℕ) (block numbers : List ℕ) (work : ℕ) (enough : working
           record {
             count = length (x .statements);
             counts = ap (counted 0) (x .read) ∙ ap accepted (zero-add (length (x .statements)));
+            prints = k .prints;
             result = k .result;
             resolves = run h (groundText r) ∙ k .resolves;
             same = k .same;

@@ -1,6 +1,7 @@
 -- Document 01, Holding the calls to their word, 3, in the words of the calls' contracts: Count answers `counting`, Statement `stating` and
 -- Resolve `resolveCall`. "Full size is 16,384 bytes of text, 2,048 effects, 257 notes and the working length."
 --
+-- Print answers `printText`.
 -- Joining: "A, newline, B read as A's statements and then B's with offsets raised by A's length and one" (`Joined`, of `values`).
 -- Reordering: for "every accepted file D of A's statements in whatever order" and every context, D resolves exactly when A does, and to the same
 -- set of effects.
@@ -12,6 +13,7 @@ use mathlib.Core.List.{List, [], _∷_}
 use Rattle.text.specs.Bytes.{countUp}
 use Rattle.reading.specs.Statement.{Statement}
 use Rattle.reading.specs.Answer.{Answer, accepted, refused}
+use Rattle.canonical.specs.Print.{printText}
 use Rattle.canonical_laws.specs.Forgotten.{forget}
 use Rattle.statements.specs.Answers.{counting, stating}
 use Rattle.resolving.specs.Lists.{any, gather}
@@ -49,6 +51,7 @@ Reordered limit block numbers work a d =
 pub record Reread (limit : ℕ) (block numbers : List ℕ) (work : ℕ) (r : Resolved) : Type 0 where
   pub count : ℕ
   pub counts : counting limit (groundText r) ≡ accepted count
+  pub prints : printText limit (groundText r) ≡ accepted (groundText r)
   pub result : Resolved
   pub resolves : resolveCall limit block numbers (groundText r) fullSize work ≡ accepted result
   pub same : groundText result ≡ groundText r

@@ -20,7 +20,9 @@ use Rattle.reading.specs.Read.{readText}
 use Rattle.reading_laws.specs.WellFormed.{isPlace, wellFormed}
 use Rattle.reading_laws.proofs.WellRead.{text-well-formed}
 use Rattle.canonical.specs.Canonical.{canonical}
+use Rattle.canonical.specs.Print.{printed, printText}
 use Rattle.canonical_laws.specs.Forgotten.{ReadAs}
+use Rattle.canonical_laws.proofs.Forgetting.{canonical-forgets}
 use Rattle.canonical_laws.proofs.Rereading.{rereads}
 use Rattle.resolving.specs.Lists.{any, isNil}
 use Rattle.resolving.specs.Context.{Context, covariates}
@@ -107,6 +109,7 @@ written-named c good g w = (
 pub record Reread (limit : ℕ) (c : Context) (r : Resolved) : Type 0 where
   pub statements : List Statement
   pub read : readText limit (groundText r) ≡ accepted statements
+  pub prints : printText limit (groundText r) ≡ accepted (groundText r)
   pub result : Resolved
   pub resolves : resolve c statements ≡ accepted result
   pub same : groundText result ≡ groundText r
@@ -190,12 +193,17 @@ module _ (limit : ℕ) (c : Context) where
 
     -- The rereading theorem.
     pub ground-reread : Reread limit c r
+    unfolding printText
     ground-reread =
         let a = ground-read in
         let b = ground-reresolved c ss r e in
         record {
           statements = a .statements;
           read = a .read;
+          prints =
+              ap printed (a .read)
+              ∙ ap accepted
+              (sym (canonical-forgets (a .statements)) ∙ ap canonical (a .same) ∙ canonical-forgets (r .statements));
           result = b .result;
           resolves =
               sym (resolve-forgets c (a .statements))

@@ -98,8 +98,8 @@ answered-so limit g text r e = by-cases (readText limit text) (isContext g) refl
     by-cases (accepted ss) false h k e = absurd (refused≢accepted e)
     by-cases (accepted ss) true h k e = record { statements = ss; read = h; stands = k; resolves = e }
 
--- Rereading: where a text resolves in a context, its ground text is accepted and resolves in that context, to the same bytes and the same set
--- of effects, and nothing is dropped.
+-- Rereading: where a text resolves in a context, its ground text is accepted, is its own canonical text, and resolves in that context, to the
+-- same bytes and the same set of effects, and nothing is dropped.
 pub ground-text-kept :
     (limit : ℕ) (g : Given) (text : List ℕ) (r : Resolved) → resolveText limit g text ≡ accepted r
     → Kept limit g r
@@ -108,6 +108,7 @@ ground-text-kept limit g text r e =
     let a = answered-so limit g text r e in
     let again = text-reread limit (contextIn g) text (a .statements) r (given-readable g (a .stands)) (a .read) (a .resolves) in
     record {
+      prints = again .prints;
       result = again .result;
       resolves = ap₂ (λ (x : Answer (List Statement)) (t : Bool). answered g t x) (again .read) (a .stands) ∙ again .resolves;
       same = again .same;

@@ -8,6 +8,7 @@ use lib.ListN.{length}
 use Rattle.reading.specs.Statement.{Statement}
 use Rattle.reading.specs.Answer.{accepted}
 use Rattle.reading.specs.Read.{readText}
+use Rattle.canonical.specs.Print.{printText}
 use Rattle.canonical_laws.specs.Forgotten.{forget}
 use Rattle.resolving.specs.Lists.{any}
 use Rattle.resolving.specs.Effects.{Effect}
@@ -46,6 +47,7 @@ isDropped n = eqb (n .reason) 0
 
 -- "A's ground text .., read and resolved with C again, gives its own bytes back with nothing dropped": and the same effects.
 pub record Kept (limit : ℕ) (g : Given) (r : Resolved) : Type 0 where
+  pub prints : printText limit (groundText r) ≡ accepted (groundText r)
   pub result : Resolved
   pub resolves : resolveText limit g (groundText r) ≡ accepted result
   pub same : groundText result ≡ groundText r
