@@ -12,86 +12,86 @@ use Rattle.reading.specs.Answer.{Answer, accepted, refused}
 use Rattle.resolving.specs.Resolve as definition
 use Rattle.resolving.specs.Resolve.{groundText}
 use Rattle.resolving.specs.Call as call
-use Rattle.resolving.specs.Call.{exceeds, lengthsIn, roomFor, lengthsOf, outputOf, effectNumbers, noteNumbers}
+use Rattle.resolving.specs.Call.{exceeds, lengthsIn, roomFor, lengthsOf, outputOf, noteNumbers}
 use Rattle.resolve.specs.declared.Resolved.{Resolved}
-use Rattle.resolve.specs.Answers.{resolvedAs, lent, Answers}
+use Rattle.resolve.specs.Answers.{resolvedAs, rooms, PackedIn, Answers}
 
 or-true : (y : Bool) → (y || true) ≡ true
 or-true true = refl
 or-true false = refl
 
-module _ {g : List ℕ} {e n : List (List ℕ)} where
+module _ {g : List ℕ} {e : ℕ} {n : List (List ℕ)} where
   -- an answer for another that is equal
-  pub same-answers : {a b : Answer definition.Resolved} {g' : List ℕ} {e' n' : List (List ℕ)} (r : Resolved)
+  pub same-answers : {a b : Answer definition.Resolved} {g' : List ℕ} {n' : List (List ℕ)} {w' : List ℕ} (r : Resolved)
       → b ≡ a
-      → Answers a g e n g' e' n' r
-      → Answers b g e n g' e' n' r
-  same-answers {a} {b} {g'} {e'} {n'} r h x = subst (λ (y : Answer definition.Resolved). Answers y g e n g' e' n' r) (sym h) x
+      → Answers a g e n g' n' w' r
+      → Answers b g e n g' n' w' r
+  same-answers {a} {b} {g'} {n'} {w'} r h x = subst (λ (y : Answer definition.Resolved). Answers y g e n g' n' w' r) (sym h) x
 
-  pub refused-answers : {a : Answer definition.Resolved} (r : Resolved) (k p : ℕ) → a ≡ refused k p → resolvedAs r ≡ refused k p → Answers a g e n g e n r
-  refused-answers r k p h t = same-answers r h (record { told = t; text = refl; numbers = refl; remarks = refl })
+  pub refused-answers : {a : Answer definition.Resolved} {w' : List ℕ} (r : Resolved) (k p : ℕ) → a ≡ refused k p → resolvedAs r ≡ refused k p → Answers a g e n g n w' r
+  refused-answers r k p h t = same-answers r h (record { told = t; text = refl; packed = tt; remarks = refl })
 
   -- an output is shorter than its answer
-  module _ {a : Answer definition.Resolved} (x : definition.Resolved) (h : a ≡ accepted x) (r : Resolved) (t : resolvedAs r ≡ refused 19 0) where
-    short : exceeds (lent g e n) (lengthsIn x) ≡ true → Answers a g e n g e n r
+  module _ {a : Answer definition.Resolved} {w' : List ℕ} (x : definition.Resolved) (h : a ≡ accepted x) (r : Resolved) (t : resolvedAs r ≡ refused 19 0) where
+    short : exceeds (rooms g e n) (lengthsIn x) ≡ true → Answers a g e n g n w' r
     short s =
         same-answers r h
         (record {
           told = t ∙ sym (ap lengthsOf turned);
           text = sym (ap (λ y. outputOf groundText y g) turned);
-          numbers = sym (ap (λ y. outputOf (λ z. map effectNumbers (z .effects)) y e) turned);
+          packed = subst (λ (y : Answer definition.Resolved). PackedIn y w') (sym turned) tt;
           remarks = sym (ap (λ y. outputOf (λ z. map noteNumbers (z .notes)) y n) turned);
         })
       where
-        turned : roomFor (lent g e n) (accepted x) ≡ refused 19 0
+        turned : roomFor (rooms g e n) (accepted x) ≡ refused 19 0
         turned = ap (λ (y : Bool). cond y (refused 19 0) (accepted x)) s
 
-    pub short-ground : length g < length (groundText x) → Answers a g e n g e n r
+    pub short-ground : length g < length (groundText x) → Answers a g e n g n w' r
     short-ground k =
         short
-        (ap (λ (y : Bool). y || (ltb (length e) (length (x .effects)) || ltb (length n) (length (x .notes)))) (lt-ltb (length g) (length (groundText x)) k))
+        (ap (λ (y : Bool). y || (ltb e (length (x .effects)) || ltb (length n) (length (x .notes)))) (lt-ltb (length g) (length (groundText x)) k))
 
-    pub short-effects : length e < length (x .effects) → Answers a g e n g e n r
+    pub short-effects : e < length (x .effects) → Answers a g e n g n w' r
     short-effects k =
         short
-        (ap (λ (y : Bool). ltb (length g) (length (groundText x)) || (y || ltb (length n) (length (x .notes)))) (lt-ltb (length e) (length (x .effects)) k)
+        (ap (λ (y : Bool). ltb (length g) (length (groundText x)) || (y || ltb (length n) (length (x .notes)))) (lt-ltb e (length (x .effects)) k)
         ∙ or-true (ltb (length g) (length (groundText x))))
 
-    pub short-notes : length n < length (x .notes) → Answers a g e n g e n r
+    pub short-notes : length n < length (x .notes) → Answers a g e n g n w' r
     short-notes k =
         short
-        (ap (λ (y : Bool). ltb (length g) (length (groundText x)) || (ltb (length e) (length (x .effects)) || y)) (lt-ltb (length n) (length (x .notes)) k)
-        ∙ ap (λ (y : Bool). ltb (length g) (length (groundText x)) || y) (or-true (ltb (length e) (length (x .effects))))
+        (ap (λ (y : Bool). ltb (length g) (length (groundText x)) || (ltb e (length (x .effects)) || y)) (lt-ltb (length n) (length (x .notes)) k)
+        ∙ ap (λ (y : Bool). ltb (length g) (length (groundText x)) || y) (or-true (ltb e (length (x .effects))))
         ∙ or-true (ltb (length g) (length (groundText x))))
 
   -- there is room
-  pub room-answers : {a : Answer definition.Resolved} (x : definition.Resolved) (r : Resolved) {g' : List ℕ} {e' n' : List (List ℕ)}
+  pub room-answers : {a : Answer definition.Resolved} (x : definition.Resolved) (r : Resolved) {g' : List ℕ} {n' : List (List ℕ)} {w' : List ℕ}
       → a ≡ accepted x
       → resolvedAs r ≡ accepted (lengthsIn x)
       → length (groundText x) ≤ length g
-      → length (x .effects) ≤ length e
+      → length (x .effects) ≤ e
       → length (x .notes) ≤ length n
       → g' ≡ groundText x ++ drop (length (groundText x)) g
-      → e' ≡ map effectNumbers (x .effects) ++ drop (length (map effectNumbers (x .effects))) e
+      → PackedIn (accepted x) w'
       → n' ≡ map noteNumbers (x .notes) ++ drop (length (map noteNumbers (x .notes))) n
-      → Answers a g e n g' e' n' r
-  room-answers x r h t p q s u v w =
+      → Answers a g e n g' n' w' r
+  room-answers x r {w' = w'} h t p q s u v w =
       same-answers r h
       (record {
         told = t ∙ sym (ap lengthsOf turned);
         text = u ∙ sym (ap (λ y. outputOf groundText y g) turned);
-        numbers = v ∙ sym (ap (λ y. outputOf (λ z. map effectNumbers (z .effects)) y e) turned);
+        packed = subst (λ (y : Answer definition.Resolved). PackedIn y w') (sym turned) v;
         remarks = w ∙ sym (ap (λ y. outputOf (λ z. map noteNumbers (z .notes)) y n) turned);
       })
     where
-      fine : exceeds (lent g e n) (lengthsIn x) ≡ false
+      fine : exceeds (rooms g e n) (lengthsIn x) ≡ false
       fine =
           rw (
             le-ltb (length g) (length (groundText x)) p,
-            le-ltb (length e) (length (x .effects)) q,
+            le-ltb e (length (x .effects)) q,
             le-ltb (length n) (length (x .notes)) s,
           )
           refl
 
-      turned : roomFor (lent g e n) (accepted x) ≡ accepted x
+      turned : roomFor (rooms g e n) (accepted x) ≡ accepted x
       turned = ap (λ (y : Bool). cond y (refused 19 0) (accepted x)) fine

@@ -6,7 +6,7 @@ use mathlib.Core.Bool.{Bool, true, false, cond, _&&_}
 use mathlib.Core.List.{List, map}
 use mathlib.Core.Option.{Option, some, none}
 use borrow.Author.Tests.{lt-ltb, le-ltb}
-use lib.ListN.{length, replicate, length-replicate}
+use lib.ListN.{length, replicate}
 use Rattle.reading.specs.Statement.{Statement}
 use Rattle.reading.specs.Answer.{Answer, accepted, refused, _>>=_}
 use Rattle.reading.specs.Read.{readText}
@@ -103,9 +103,3 @@ module _ (limit : ℕ) (b l s : List ℕ) where
 
 pub short-work : (w : List ℕ) → length w < 6656 → w ≡ workAfter w
 short-work w h = sym (ap (λ (t : Bool). cond t w (replicate (length w) 0)) (lt-ltb (length w) 6656 h))
-
-pub cleared-work : (w v : List ℕ) (m : ℕ) → 6656 ≤ length w → v ≡ replicate m 0 → length v ≡ length w → v ≡ workAfter w
-cleared-work w v m h e k =
-    e
-    ∙ ap (λ (n : ℕ). replicate n 0) (sym (ap length e ∙ length-replicate m 0) ∙ k)
-    ∙ sym (ap (λ (t : Bool). cond t w (replicate (length w) 0)) (le-ltb (length w) 6656 h))

@@ -215,18 +215,18 @@ none-before [] l e = refl
 none-before (x ∷ xs) l e = absurd (omega (arith, e))
 
 -- The same where no part of the ground was lent, and nothing of it is changed.
-pub refused-behind : {a : Answer Resolved} {g g' : List ℕ} {e n : List (List ℕ)} (r : lengths.Resolved) (k p : ℕ)
+pub refused-behind : {a : Answer Resolved} {g g' : List ℕ} {e : ℕ} {n : List (List ℕ)} {w' : List ℕ} (r : lengths.Resolved) (k p : ℕ)
     → g' ≡ g
     → a ≡ refused k p
     → resolvedAs r ≡ refused k p
-    → Answers a g e n g' e n r
-refused-behind {a} {g} {g'} {e} {n} r k p h q t =
-    subst (λ (x : List ℕ). Answers a g e n x e n r) (sym h) (refused-answers r k p q t)
+    → Answers a g e n g' n w' r
+refused-behind {a} {g} {g'} {e} {n} {w'} r k p h q t =
+    subst (λ (x : List ℕ). Answers a g e n x n w' r) (sym h) (refused-answers r k p q t)
 
-pub answers-behind : {a b : Answer Resolved} {g₀ g g' : List ℕ} {e n e' n' : List (List ℕ)} (r : lengths.Resolved)
+pub answers-behind : {a b : Answer Resolved} {g₀ g g' : List ℕ} {e : ℕ} {n n' : List (List ℕ)} {w' : List ℕ} (r : lengths.Resolved)
     → g₀ ≡ g
     → b ≡ a
-    → Answers a g₀ e n g' e' n' r
-    → Answers b g e n g' e' n' r
-answers-behind {a} {b} {g₀} {g} {g'} {e} {n} {e'} {n'} r h q x =
-    subst (λ (y : List ℕ). Answers b y e n g' e' n' r) h (same-answers r q x)
+    → Answers a g₀ e n g' n' w' r
+    → Answers b g e n g' n' w' r
+answers-behind {a} {b} {g₀} {g} {g'} {e} {n} {n'} {w'} r h q x =
+    subst (λ (y : List ℕ). Answers b y e n g' n' w' r) h (same-answers r q x)

@@ -18,7 +18,7 @@ ghost use Rattle.space.specs.Space.{Whole, statementsIn};
 ghost use Rattle.space.specs.Fit.{FitAll};
 ghost use Rattle.resolving.specs.Resolve.{groundText};
 ghost use Rattle.outputs.specs.Entries.{additiveNote};
-ghost use Rattle.resolve.specs.Answers.{Answers, resolvedAs, lent};
+ghost use Rattle.resolve.specs.Answers.{Answers, Packed, resolvedAs, effectsIn, rooms, lent};
 ghost use Rattle.resolve.specs.Stages.{GroundPut, BroughtThere, Grounding, grounded, settled};
 use brought::AllBrought;
 use brought::Tally;
@@ -149,7 +149,7 @@ fn resolve_grouped(
     count: usize,
     groups: usize,
     ground: &mut [u8],
-    effects: &mut [[u8; 5]],
+    room: usize,
     notes: &mut [[u8; 2]],
     work: &[u32],
 ) -> Resolved
@@ -160,8 +160,8 @@ fn resolve_grouped(
     ensures { λ r. ⌜ ((bs : List Brought) → (eachFrom (bring (handedContext (now (block .entry)) (now (lists .entry)))
         (meaningIn (now (text .entry)) (now (lets .entry)) n (handedContext (now (block .entry)) (now (lists .entry)))))
         0 (statementsIn (now (text .entry)) space)) ≡ accepted bs
-        → Answers (grounded (handedContext (now (block .entry)) (now (lists .entry))) bs) (now (ground .entry)) (now (effects .entry)) (now (notes .entry))
-        (now (ground .exit)) (now (effects .exit)) (now (notes .exit)) r) ⌝ }
+        → Answers (grounded (handedContext (now (block .entry)) (now (lists .entry))) bs) (now (ground .entry)) room (now (notes .entry))
+        (now (ground .exit)) (now (notes .exit)) (now (work .entry)) r) ⌝ }
 {
     if 256 < tally.stays + groups {
         return refuse(TOO_LARGE, 0);
@@ -188,7 +188,7 @@ fn resolve_grouped(
     if ground.len() < length {
         return refuse(forms::TOO_SHORT, 0);
     }
-    if effects.len() < count {
+    if room < count {
         return refuse(forms::TOO_SHORT, 0);
     }
     if notes.len() < remarks {
@@ -212,7 +212,6 @@ fn resolve_grouped(
         groups,
         ground,
     );
-    outputs::put_effects(effects, work, count);
     outputs::put_notes(notes, dropped, tally.dropped, additive);
     Resolved::Lengths(Lengths {
         ground: length,
@@ -236,7 +235,7 @@ fn resolve_brought(
     tally: Tally,
     dropped: &[u8],
     ground: &mut [u8],
-    effects: &mut [[u8; 5]],
+    room: usize,
     notes: &mut [[u8; 2]],
     work: &mut [u32],
 ) -> Resolved
@@ -247,8 +246,8 @@ fn resolve_brought(
     ensures { λ r. ⌜ ((bs : List Brought) → (eachFrom (bring (handedContext (now (block .entry)) (now (lists .entry)))
         (meaningIn (now (text .entry)) (now (lets .entry)) n (handedContext (now (block .entry)) (now (lists .entry)))))
         0 (statementsIn (now (text .entry)) space)) ≡ accepted bs
-        → Answers (definition.mergeAndGround (handedContext (now (block .entry)) (now (lists .entry))) bs) (now (ground .entry)) (now (effects .entry)) (now (notes .entry))
-        (now (ground .exit)) (now (effects .exit)) (now (notes .exit)) r) ⌝ }
+        → Answers (definition.mergeAndGround (handedContext (now (block .entry)) (now (lists .entry))) bs) (now (ground .entry)) room (now (notes .entry))
+        (now (ground .exit)) (now (notes .exit)) (now (work .exit)) r) ⌝ }
 {
     if 2048 < tally.terms {
         return refuse(TOO_LARGE, 0);
@@ -281,7 +280,7 @@ fn resolve_brought(
         count,
         groups,
         ground,
-        effects,
+        room,
         notes,
         work,
     )
@@ -300,7 +299,7 @@ fn resolve_collected(
     n: usize,
     space: Space,
     ground: &mut [u8],
-    effects: &mut [[u8; 5]],
+    room: usize,
     notes: &mut [[u8; 2]],
     work: &mut [u32],
 ) -> Resolved
@@ -309,8 +308,8 @@ fn resolve_collected(
     ensures { λ r. ⌜ Answers (settled (handedContext (now (block .entry)) (now (lists .entry)))
         (eachFrom (bring (handedContext (now (block .entry)) (now (lists .entry)))
         (meaningIn (now (text .entry)) (now (lets .entry)) n (handedContext (now (block .entry)) (now (lists .entry)))))
-        0 (statementsIn (now (text .entry)) space))) (now (ground .entry)) (now (effects .entry)) (now (notes .entry))
-        (now (ground .exit)) (now (effects .exit)) (now (notes .exit)) r ⌝ }
+        0 (statementsIn (now (text .entry)) space))) (now (ground .entry)) room (now (notes .entry))
+        (now (ground .exit)) (now (notes .exit)) (now (work .exit)) r ⌝ }
 {
     let mut dropped = [0; 256];
     let tally = match brought::bring_all(
@@ -347,7 +346,7 @@ fn resolve_collected(
         tally,
         &dropped,
         ground,
-        effects,
+        room,
         notes,
         work,
     )
@@ -364,15 +363,15 @@ fn resolve_checked(
     layout: Layout,
     space: Space,
     ground: &mut [u8],
-    effects: &mut [[u8; 5]],
+    room: usize,
     notes: &mut [[u8; 2]],
     work: &mut [u32],
 ) -> Resolved
     requires { ⌜ (now classes ≡ classTable) × (now labels ≡ labelTable) × (now keys ≡ keywordTable) × Stands (now block) (now lists) layout
         × Whole space × FitAll (now text) space × (length (now text) ≤ 16384) × (6656 ≤ length (now work)) ⌝ }
     ensures { λ r. ⌜ Answers (definition.resolve (handedContext (now (block .entry)) (now (lists .entry))) (statementsIn (now (text .entry)) space))
-        (now (ground .entry)) (now (effects .entry)) (now (notes .entry))
-        (now (ground .exit)) (now (effects .exit)) (now (notes .exit)) r ⌝ }
+        (now (ground .entry)) room (now (notes .entry))
+        (now (ground .exit)) (now (notes .exit)) (now (work .exit)) r ⌝ }
 {
     let mut lets = [0; 1024];
     let n = match collecting::collect_lets(text, space, &mut lets) {
@@ -393,7 +392,7 @@ fn resolve_checked(
         n,
         space,
         ground,
-        effects,
+        room,
         notes,
         work,
     )
@@ -409,7 +408,7 @@ fn resolve_read(
     lists: &[u32],
     space: Space,
     ground: &mut [u8],
-    effects: &mut [[u8; 5]],
+    room: usize,
     notes: &mut [[u8; 2]],
     work: &mut [u32],
 ) -> Resolved
@@ -417,8 +416,8 @@ fn resolve_read(
         × Whole space × FitAll (now text) space × (length (now text) ≤ 16384) × (6656 ≤ length (now work)) ⌝ }
     ensures { λ r. ⌜ Answers (cond (isHanded (now (block .entry)) (now (lists .entry)))
         (definition.resolve (handedContext (now (block .entry)) (now (lists .entry))) (statementsIn (now (text .entry)) space)) (refused 12 0))
-        (now (ground .entry)) (now (effects .entry)) (now (notes .entry))
-        (now (ground .exit)) (now (effects .exit)) (now (notes .exit)) r ⌝ }
+        (now (ground .entry)) room (now (notes .entry))
+        (now (ground .exit)) (now (notes .exit)) (now (work .exit)) r ⌝ }
 {
     match context::check(block, classes, lists) {
         Checked::Wrong => refuse(WRONG_CONTEXT, 0),
@@ -432,7 +431,7 @@ fn resolve_read(
             layout,
             space,
             ground,
-            effects,
+            room,
             notes,
             work,
         ),
@@ -445,15 +444,15 @@ fn resolve_in(
     block: &[u8],
     lists: &[u32],
     ground: &mut [u8],
-    effects: &mut [[u8; 5]],
+    room: usize,
     notes: &mut [[u8; 2]],
     work: &mut [u32],
     limit: u32,
 ) -> Resolved
     requires { ⌜ 6656 ≤ length (now work) ⌝ }
     ensures { λ r. ⌜ Answers (resolveHanded limit (now (block .entry)) (now (lists .entry)) (now (text .entry)))
-        (now (ground .entry)) (now (effects .entry)) (now (notes .entry))
-        (now (ground .exit)) (now (effects .exit)) (now (notes .exit)) r ⌝ }
+        (now (ground .entry)) room (now (notes .entry))
+        (now (ground .exit)) (now (notes .exit)) (now (work .exit)) r ⌝ }
 {
     if 16384 < text.len() {
         return refuse(forms::TOO_LONG, 0);
@@ -474,10 +473,53 @@ fn resolve_in(
             lists,
             space,
             ground,
-            effects,
+            room,
             notes,
             work,
         ),
+    }
+}
+
+// Resolve under a limit for counts, with the effects packed at the start of the working buffer instead of in an output: `room` is how many there
+// is room for. A working buffer that is too short is left as it was.
+pub fn resolve_packed(
+    text: &[u8],
+    block: &[u8],
+    lists: &[u32],
+    ground: &mut [u8],
+    room: usize,
+    notes: &mut [[u8; 2]],
+    work: &mut [u32],
+    limit: u32,
+) -> Resolved
+    ensures { λ r. ⌜ resolvedAs r ≡ lengthsOf (resolveCall limit (now (block .entry)) (now (lists .entry)) (now (text .entry))
+        (rooms (now (ground .entry)) room (now (notes .entry))) (length (now (work .entry)))) ⌝ }
+    ensures { λ _. ⌜ Packed (resolveCall limit (now (block .entry)) (now (lists .entry)) (now (text .entry))
+        (rooms (now (ground .entry)) room (now (notes .entry))) (length (now (work .entry))))
+        (now (ground .entry)) (now (notes .entry)) (now (work .entry)) (now (ground .exit)) (now (notes .exit)) (now (work .exit)) ⌝ }
+{
+    if work.len() < WORKING {
+        return refuse(forms::TOO_SHORT, 0);
+    }
+    resolve_in(text, block, lists, ground, room, notes, work, limit)
+}
+
+// How many effects an answer tells of.
+pub fn effect_count(resolved: Resolved) -> usize
+    ensures { λ r. ⌜ r ≡ effectsIn (resolvedAs resolved) ⌝ }
+{
+    match resolved {
+        Resolved::Lengths(n) => n.effects,
+        Resolved::Refused(_) => 0,
+    }
+}
+
+// What a call leaves of its working buffer: zeros, unless it is too short.
+pub fn finish(work: &mut [u32])
+    ensures { λ _. ⌜ now (work .exit) ≡ workAfter (now (work .entry)) ⌝ }
+{
+    if WORKING <= work.len() {
+        outputs::clear(work);
     }
 }
 
@@ -502,11 +544,11 @@ pub fn resolve_under(
         (lent (now (ground .entry)) (now (effects .entry)) (now (notes .entry))) (length (now (work .entry)))) (now (notes .entry)) ⌝ }
     ensures { λ _. ⌜ now (work .exit) ≡ workAfter (now (work .entry)) ⌝ }
 {
-    if work.len() < WORKING {
-        return refuse(forms::TOO_SHORT, 0);
-    }
-    let resolved = resolve_in(text, block, lists, ground, effects, notes, work, limit);
-    outputs::clear(work);
+    let room = effects.len();
+    let resolved = resolve_packed(text, block, lists, ground, room, notes, work, limit);
+    let count = effect_count(resolved);
+    outputs::put_effects(effects, work, count);
+    finish(work);
     resolved
 }
 

@@ -51,8 +51,8 @@ returns-3 c bs e =
 
 resolve-grouped-requires : tie.Need-resolve-grouped-requires
 resolve-grouped-requires c κs =
-    let y = c .before .before .before .before .before .groups .given in
-    let g = c .before .before .before .before .before .before .before .before .before in
+    let y = c .before .before .before .before .groups .given in
+    let g = c .before .before .before .before .before .before .before .before in
     let x = g .before .before .before .count .given in
     let m = g .before .before .before .before .before .before .before in
     let l = m .before .before in
@@ -71,8 +71,8 @@ resolve-grouped-requires c κs =
 
 returns-4 : tie.Need-returns-4
 returns-4 c bs e =
-    let r = c .before .before .before .before in
-    let g = r .before .before .before .before .before .before .before .before .before .before in
+    let r = c .before .before .before in
+    let g = r .before .before .before .before .before .before .before .before .before in
     let x = g .before .before .before .count .given in
     let m = g .before .before .before .before .before .before .before in
     let l = m .before .before in
@@ -99,7 +99,6 @@ resolve-brought-spec =
     returns-3
     (λ c. search needs)
     resolve-grouped-requires
-    (λ c. search needs)
     (λ c. search needs)
     (λ c. search needs)
     (λ c. search needs)

@@ -20,7 +20,7 @@ returns c =
 resolve-collected-requires : tie.Need-resolve-collected-requires
 unfolding CollectedAs
 resolve-collected-requires c κs =
-    let x = c .before .before .before .before .before .before in
+    let x = c .before .before .before .before .before in
     let k = x .before .before .before in
     let p = k .before .before .before .before .before .before .before .pre in
     (p .0, p .1, p .2, p .3, subst (CollectedAs _ _ _) (x .n .given .1) (k .collect-lets .ensures) .fit, p .4, p .5, p .7)
@@ -28,8 +28,8 @@ resolve-collected-requires c κs =
 returns-2 : tie.Need-returns-2
 unfolding CollectedAs
 returns-2 c =
-    let d = c .before .before .before .before .before .before in
-    let x = d .before .before .before .before .before .before .before in
+    let d = c .before .before .before .before .before in
+    let x = d .before .before .before .before .before .before in
     let k = x .before .before .before in
     same-answers (d .resolve-collected .result)
     (collected-resolve _ _ (subst (CollectedAs _ _ _) (x .n .given .1) (k .collect-lets .ensures)))
@@ -47,7 +47,6 @@ resolve-checked-spec =
     (λ c. search needs)
     (λ c. search needs)
     resolve-collected-requires
-    (λ c. search needs)
     (λ c. search needs)
     (λ c. search needs)
     (λ c. search needs)

@@ -33,8 +33,8 @@ returns c =
 resolve-brought-requires : tie.Need-resolve-brought-requires
 unfolding AllAs
 resolve-brought-requires c κs =
-    let x = c .before .before .before .before .before .before .tally .given in
-    let b = c .before .before .before .before .before .before .before .before .before .before .before .before .before in
+    let x = c .before .before .before .before .before .tally .given in
+    let b = c .before .before .before .before .before .before .before .before .before .before .before .before in
     let s = b .before .before .before .before .before .before .before .before .before .before in
     let a = s .args in
     let k = handedContext (now (a .block)) (now (a .lists)) in
@@ -53,9 +53,9 @@ resolve-brought-requires c κs =
 returns-2 : tie.Need-returns-2
 unfolding AllAs
 returns-2 c =
-    let r = c .before .before .before .before .before .before in
-    let x = r .before .before .before .before .before .before .before .tally .given in
-    let b = r .before .before .before .before .before .before .before .before .before .before .before .before .before .before in
+    let r = c .before .before .before .before .before in
+    let x = r .before .before .before .before .before .before .tally .given in
+    let b = r .before .before .before .before .before .before .before .before .before .before .before .before .before in
     let s = b .before .before .before .before .before .before .before .before .before .before in
     let h = subst (AllAs _ _ _ _ _) (x .1) (b .bring-all .ensures) in
     answers-behind (r .resolve-brought .result) (unchanged b) (settled-on (handedContext (now (s .args .block)) (now (s .args .lists))) (h .brought))
@@ -76,7 +76,6 @@ resolve-collected-spec =
     (λ c. search needs)
     (λ c. search needs)
     resolve-brought-requires
-    (λ c. search needs)
     (λ c. search needs)
     (λ c. search needs)
     (λ c. search needs)

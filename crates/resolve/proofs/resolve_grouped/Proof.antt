@@ -12,13 +12,12 @@ use borrow.Author.Needs.{needs}
 use Rattle.reading.specs.Answer.{Answer, accepted, refused}
 use Rattle.writing.specs.Written.{patch, Written}
 use Rattle.writing.proofs.Writing.{patch-front, patch-empty}
-use Rattle.resolving.specs.Effects.{Effect}
 use Rattle.resolving.specs.Brought.{Brought, bring, eachFrom}
 use Rattle.resolving.specs.Handed.{handedContext}
 use Rattle.resolving.specs.Resolve as definition
 use Rattle.resolving.specs.Resolve.{outcome, groundText}
 use Rattle.resolving.specs.Call as call
-use Rattle.resolving.specs.Call.{effectNumbers, noteNumbers, lengthsIn}
+use Rattle.resolving.specs.Call.{noteNumbers}
 use Rattle.operands.specs.Entries.{meaningIn}
 use Rattle.space.specs.Space.{statementsIn}
 use Rattle.merging.specs.Packing.{effectOf}
@@ -34,11 +33,11 @@ use Rattle.resolve.proofs.resolve_grouped.Tie as tie
 
 -- the ground text's buffer as it was, in place of what came back
 with-same :
-    {a : Answer definition.Resolved} {g g' : List ℕ} {e n : List (List ℕ)} {r : Resolved}
+    {a : Answer definition.Resolved} {g g' : List ℕ} {e : ℕ} {n : List (List ℕ)} {w' : List ℕ} {r : Resolved}
     → g' ≡ g
-    → Answers a g e n g e n r
-    → Answers a g e n g' e n r
-with-same {a} {g} {g'} {e} {n} {r} h x = subst (λ (y : List ℕ). Answers a g e n y e n r) (sym h) x
+    → Answers a g e n g n w' r
+    → Answers a g e n g' n w' r
+with-same {a} {g} {g'} {e} {n} {w'} {r} h x = subst (λ (y : List ℕ). Answers a g e n y n w' r) (sym h) x
 
 -- what is asked about
 abbrev Asked : (s : tie.Start) (bs : List Brought) → Type 0
@@ -162,17 +161,9 @@ put-ground-requires c κs =
     let s = p .before .before .before .before .before .before .before .before .before .before .before in
     (s .pre .0, s .pre .1, s .pre .2, s .pre .3, s .pre .4, s .pre .5, s .pre .6, s .pre .7, omega (arith, q .if2 .left, p .put-groups .ensures .next))
 
-put-effects-requires : tie.Need-put-effects-requires
-put-effects-requires c κs =
-    let f = c .before .before .before .before .before in
-    let q = f .before .before .before .before .before in
-    let s = q .before .before .before .before .before .before .before .before .before .before .before .before .before .before in
-    let g = s .pre .7 in
-    (omega (arith, f .before .if4 .left), omega (arith, g .few, g .known .room))
-
 put-notes-requires : tie.Need-put-notes-requires
 put-notes-requires c κs =
-    let f = c .before .before .before .before .before .before .before .before in
+    let f = c .before .before .before .before .before in
     let n = f .before .before .before in
     let q = n .before .before in
     let s = q .before .before .before .before .before .before .before .before .before .before .before .before .before .before in
@@ -187,8 +178,7 @@ returns-6 : tie.Need-returns-6
 unfolding resolvedAs
 returns-6 c bs e =
     let w = c .before in
-    let v = w .before .before .before in
-    let u = v .before .before .before .before in
+    let u = w .before .before .before .before in
     let f = u .before .before in
     let n = f .before .before .before in
     let q = n .before .before in
@@ -208,10 +198,7 @@ returns-6 c bs e =
     (u .put-ground .ensures bs e .bytes
     ∙ ap (λ (l : List ℕ). patch 0 l (groundText x)) (unchanged p)
     ∙ patch-front (now (s .args .ground)) (groundText x) h)
-    (v .put-effects .ensures
-    ∙ ap₂ (λ (es : List Effect) (i : ℕ). map effectNumbers es ++ drop i (now (s .args .effects)))
-    (effects-are g bs e)
-    (sym (length-map (x .effects) effectNumbers ∙ k)))
+    (ap (λ (i : ℕ). map effectOf (take i (now (s .args .work)))) k ∙ effects-are g bs e)
     (w .put-notes .ensures
     ∙ ap₂ (λ (l : List (List ℕ)) (i : ℕ). l ++ drop i (now (s .args .notes)))
     (sym (notes-put g bs e (n .before .additive .result) (n .before .additive .ensures)))
@@ -242,9 +229,7 @@ resolve-grouped-spec =
     (λ c. search needs)
     returns-5
     put-ground-requires
-    put-effects-requires
     put-notes-requires
-    (λ c. search needs)
     (λ c. search needs)
     (λ c. search needs)
     returns-6)

@@ -24,7 +24,7 @@ read-space-requires c κs = (refl, refl, refl, c .before .before .before .if1 .l
 resolve-read-requires : tie.Need-resolve-read-requires
 unfolding classTable classOf labelTable labelsOf keywordTable keywords
 resolve-read-requires c κs =
-    let x = c .before .before .before .before .before .before .before in
+    let x = c .before .before .before .before .before .before in
     let k = x .before .before in
     let e = k .before .before .before .before in
     let s = e .before .before .before .before .before .before in
@@ -50,8 +50,8 @@ returns-2 c =
 
 returns-3 : tie.Need-returns-3
 returns-3 c =
-    let d = c .before .before .before .before .before .before in
-    let x = d .before .before .before .before .before .before .before .before in
+    let d = c .before .before .before .before .before in
+    let x = d .before .before .before .before .before .before .before in
     let k = x .before .before in
     same-answers (d .resolve-read .result)
     (accepted-handed _ _ _ _ _ (read-accepted _ _ (k .read-space .result) (k .read-space .ensures .0) (x .enum-told .given .1)))
@@ -68,7 +68,6 @@ resolve-in-spec =
     (λ c. search needs)
     resolve-read-requires
     returns-2
-    (λ c. search needs)
     (λ c. search needs)
     (λ c. search needs)
     (λ c. search needs)

@@ -9,7 +9,7 @@ use Rattle.resolve.proofs.resolve_read.Tie as tie
 
 resolve-checked-requires : tie.Need-resolve-checked-requires
 resolve-checked-requires c κs =
-    let x = c .before .before .before .before .before in
+    let x = c .before .before .before .before in
     let k = x .before .before in
     let p = k .before .before .before .before .before .before .pre in
     (p .0, p .1, p .2, checked-stands _ _ _ (sym (k .check .ensures) ∙ x .layout .given .1), p .3, p .4, p .5, p .6)
@@ -24,8 +24,8 @@ returns c =
 
 returns-2 : tie.Need-returns-2
 returns-2 c =
-    let d = c .before .before .before .before .before .before in
-    let x = d .before .before .before .before .before .before in
+    let d = c .before .before .before .before .before in
+    let x = d .before .before .before .before .before in
     let k = x .before .before in
     same-answers (d .resolve-checked .result)
     (checked-handed _ _ _ (checked-stands _ _ _ (sym (k .check .ensures) ∙ x .layout .given .1) .is))
@@ -41,7 +41,6 @@ resolve-read-spec =
     (λ c. search needs)
     resolve-checked-requires
     returns
-    (λ c. search needs)
     (λ c. search needs)
     (λ c. search needs)
     (λ c. search needs)

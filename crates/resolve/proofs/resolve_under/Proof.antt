@@ -1,55 +1,65 @@
--- `resolve::resolve_under` meets its contract: a working buffer that is too short comes first, and a longer one is zero afterwards.
+-- `resolve::resolve_under` meets its contract: the effects that stand packed are put where they are to be, and the working buffer is finished.
 -- Assumes nothing.
-use mathlib.Core.Path.{_∙_, ap, sym}
-use mathlib.Core.List.{map}
-use lib.ListN.{length}
+use Prim.Native.Nat.{ℕ, _≤_}
+use mathlib.Core.Path.{_≡_, _∙_, ap, sym, subst}
+use mathlib.Core.List.{List, _++_, map}
+use lib.ListN.{length, take, drop}
 use denote.Ref.{now}
 use borrow.Author.Needs.{needs}
-use Rattle.resolving.specs.Resolve.{groundText}
-use Rattle.resolving.specs.Call.{lengthsOf, outputOf, effectNumbers, noteNumbers}
-use Rattle.resolve.specs.Answers.{lent}
-use Rattle.resolve.proofs.Calling.{short-call, long-call, short-work, cleared-work}
+use Rattle.reading.specs.Answer.{Answer}
+use Rattle.resolving.specs.Resolve as definition
+use Rattle.resolving.specs.Call.{resolveCall, lengthsOf, effectNumbers}
+use Rattle.merging.specs.Packing.{effectOf}
+use Rattle.resolve.specs.Answers.{effectsIn, lent}
+use Rattle.resolve.proofs.Packed.{effects-fit, effects-stand, effects-put}
 use Rattle.resolve.proofs.resolve_under.Statement.{statement}
 use Rattle.resolve.proofs.resolve_under.Tie as tie
 
-returns : tie.Need-returns
-returns c =
-    let k = c .before .if1 .taken in
-    let a = c .before .before .before .before .before .before .before .args in
-    let h =
-    short-call (a .limit) (now (a .block)) (now (a .lists)) (now (a .text)) (lent (now (a .ground)) (now (a .effects)) (now (a .notes))) (now (a .work)) k in (
-      c .refuse .ensures ∙ sym (ap lengthsOf h),
-      (
-        sym (ap (λ y. outputOf groundText y (now (a .ground))) h),
-        (
-          sym (ap (λ y. outputOf (λ z. map effectNumbers (z .effects)) y (now (a .effects))) h),
-          (sym (ap (λ y. outputOf (λ z. map noteNumbers (z .notes)) y (now (a .notes))) h), short-work _ k),
-        ),
-      ),
+-- where it was resolved
+abbrev packed : tie.After-effect-count → tie.After-resolve-packed
+packed m = m .before .before .before .before .before .before
+
+abbrev start : tie.After-effect-count → tie.Start
+start m = packed m .before .before .before .before .before .before .before .before .before
+
+-- the call's answer
+abbrev answer : tie.After-effect-count → Answer definition.Resolved
+answer m =
+    let a = start m .args in
+    resolveCall (a .limit) (now (a .block)) (now (a .lists)) (now (a .text)) (lent (now (a .ground)) (now (a .effects)) (now (a .notes))) (length (now (a .work)))
+
+-- the working buffer as it was left
+abbrev left : tie.After-effect-count → List ℕ
+left m = packed m .resolve-packed .last .1 .1 .1 .1 .1 .1 .0
+
+counted : (m : tie.After-effect-count) → m .effect-count .result ≡ effectsIn (lengthsOf (answer m))
+counted m = m .effect-count .ensures ∙ ap effectsIn (packed m .resolve-packed .ensures .0)
+
+put-effects-requires : tie.Need-put-effects-requires
+put-effects-requires c κs =
+    let m = c .before .before in
+    let a = start m .args in (
+      subst (λ (k : ℕ). k ≤ length (now (a .effects))) (sym (counted m))
+          (effects-fit (a .limit) (now (a .block)) (now (a .lists)) (now (a .text)) (lent (now (a .ground)) (now (a .effects)) (now (a .notes))) (length (now (a .work)))),
+      subst (λ (k : ℕ). k ≤ length (left m)) (sym (counted m)) (effects-stand (answer m) (left m) (packed m .resolve-packed .ensures .1 .packed)),
     )
 
-same-length-4 : tie.Need-same-length-4
-same-length-4 c = search needs
-
-returns-2 : tie.Need-returns-2
-returns-2 c =
-    let v = c .before .before in
-    let d = v .before .before .before .before .before .before .before .before in
-    let e = d .before .before .before .before .before in
-    let a = e .before .before .before .before .before .before .args in
-    let n = d .resolve-in .ensures in
-    let h =
-    long-call (a .limit) (now (a .block)) (now (a .lists)) (now (a .text)) (lent (now (a .ground)) (now (a .effects)) (now (a .notes))) (now (a .work))
-    (e .if1 .left) in (
-      n .told ∙ sym (ap lengthsOf h),
+returns : tie.Need-returns
+returns c =
+    let f = c .before .before in
+    let v = f .before .before .before in
+    let m = v .before .before .before in
+    let d = packed m .resolve-packed .ensures in
+    let n = d .1 in
+    let a = start m .args in (
+      d .0,
       (
-        n .text ∙ sym (ap (λ y. outputOf groundText y (now (a .ground))) h),
+        n .text,
         (
-          n .numbers ∙ sym (ap (λ y. outputOf (λ z. map effectNumbers (z .effects)) y (now (a .effects))) h),
-          (
-            n .remarks ∙ sym (ap (λ y. outputOf (λ z. map noteNumbers (z .notes)) y (now (a .notes))) h),
-            cleared-work (now (a .work)) _ (length (d .resolve-in .last .1 .1 .1 .1 .1 .1 .0)) (e .if1 .left) (v .clear .ensures) (same-length-4 c),
-          ),
+          v .put-effects .ensures
+              ∙ ap (λ (k : ℕ). map effectNumbers (map effectOf (take k (left m))) ++ drop k (now (a .effects))) (counted m)
+              ∙ effects-put effectNumbers (answer m) (left m) (now (a .effects)) (n .packed),
+          (n .remarks, f .finish .ensures ∙ n .left),
         ),
       ),
     )
@@ -59,11 +69,11 @@ resolve-under-spec =
     tie.close
     (tie.spec
     (λ c κs. search needs)
-    returns
     (λ c κs. search needs)
+    put-effects-requires
     (λ c κs. search needs)
     (λ c. search needs)
     (λ c. search needs)
     (λ c. search needs)
-    same-length-4
-    returns-2)
+    (λ c. search needs)
+    returns)
