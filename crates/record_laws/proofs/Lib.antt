@@ -1,0 +1,5 @@
+pub mod At
+pub mod Call
+pub mod Lending
+pub mod Pass
+pub mod Store
