@@ -1,0 +1,3 @@
+pub mod Below
+pub mod Storing
+pub mod Telling
