@@ -1,3 +1,2 @@
 pub mod Below
 pub mod Joining
-pub mod ResolvedBelow

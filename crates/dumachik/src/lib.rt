@@ -1,7 +1,7 @@
 // The calls for programs in other languages. A slice is a pointer and a length; an answer is one number (`word`).
 ghost use mathlib.Core.Path.{_≡_};
 ghost use mathlib.Core.List.{map};
-ghost use Prim.Native.Nat.{_+_, _*_, _≤_, _<_};
+ghost use Prim.Native.Nat.{_+_, _*_, _<_};
 ghost use lib.ListN.{length};
 ghost use Rattle.tokens.specs.Lex.{tokens};
 ghost use Rattle.tokens.specs.Next.{scanned};
@@ -9,15 +9,15 @@ ghost use Rattle.canonical.specs.Print.{printText, lengthOf, fitting, output};
 ghost use Rattle.statements.specs.Answers.{counting};
 ghost use Rattle.statement_numbers.specs.Answers.{numbering};
 ghost use Rattle.resolving.specs.Resolve.{groundText};
-ghost use Rattle.resolving.specs.Call.{resolveCall, lengthsOf, outputOf, workAfter, effectNumbers, noteNumbers};
-ghost use Rattle.resolve.specs.Answers.{lent, lengthsAs};
+ghost use Rattle.resolving.specs.Call.{resolveCall, lengthsOf, outputOf, workAfter, noteNumbers};
+ghost use Rattle.resolve.specs.Answers.{lent};
+ghost use Rattle.records.specs.Records.{recordOf};
+ghost use Rattle.records.specs.Words.{resolvedWord};
 ghost use Rattle.dumachik.specs.Scan.{strayAt};
 ghost use Rattle.dumachik.specs.Word.{word};
-ghost use Rattle.dumachik.specs.Resolved.{lengthsWord, resolvedWord};
 use forms::Refusal;
+use records::Effect;
 use render::Printed;
-use resolve::Lengths;
-use resolve::Resolved;
 use statement_numbers::NumbersAt;
 use statements::CountRead;
 use tokens::Scanned;
@@ -75,13 +75,6 @@ pub extern "C" fn mfl_print(text: &[u8], out: &mut [u8]) -> u64
     }
 }
 
-fn lengths_word(n: Lengths) -> u64
-    requires { ⌜ (n .ground ≤ 16384) × ((n .effects ≤ 2048) × (n .notes ≤ 257)) ⌝ }
-    ensures { λ r. ⌜ r ≡ lengthsWord (lengthsAs n) ⌝ }
-{
-    n.ground as u64 + n.effects as u64 * 65536 + n.notes as u64 * 1099511627776
-}
-
 // Resolve: the ground text in `ground`, the effects in `effects` and the notes in `notes`, and how many each has.
 #[no_mangle]
 pub extern "C" fn mfl_resolve(
@@ -89,7 +82,7 @@ pub extern "C" fn mfl_resolve(
     block: &[u8],
     lists: &[u32],
     ground: &mut [u8],
-    effects: &mut [[u8; 5]],
+    effects: &mut [Effect],
     notes: &mut [[u8; 2]],
     work: &mut [u32],
 ) -> u64
@@ -97,14 +90,11 @@ pub extern "C" fn mfl_resolve(
         (lent (now (ground .entry)) (now (effects .entry)) (now (notes .entry))) (length (now (work .entry))))) ⌝ }
     ensures { λ _. ⌜ now (ground .exit) ≡ outputOf groundText (resolveCall 64 (now (block .entry)) (now (lists .entry)) (now (text .entry))
         (lent (now (ground .entry)) (now (effects .entry)) (now (notes .entry))) (length (now (work .entry)))) (now (ground .entry)) ⌝ }
-    ensures { λ _. ⌜ now (effects .exit) ≡ outputOf (λ x. map effectNumbers (x .effects)) (resolveCall 64 (now (block .entry)) (now (lists .entry)) (now (text .entry))
+    ensures { λ _. ⌜ now (effects .exit) ≡ outputOf (λ x. map recordOf (x .effects)) (resolveCall 64 (now (block .entry)) (now (lists .entry)) (now (text .entry))
         (lent (now (ground .entry)) (now (effects .entry)) (now (notes .entry))) (length (now (work .entry)))) (now (effects .entry)) ⌝ }
     ensures { λ _. ⌜ now (notes .exit) ≡ outputOf (λ x. map noteNumbers (x .notes)) (resolveCall 64 (now (block .entry)) (now (lists .entry)) (now (text .entry))
         (lent (now (ground .entry)) (now (effects .entry)) (now (notes .entry))) (length (now (work .entry)))) (now (notes .entry)) ⌝ }
     ensures { λ _. ⌜ now (work .exit) ≡ workAfter (now (work .entry)) ⌝ }
 {
-    match resolve::resolve(text, block, lists, ground, effects, notes, work) {
-        Resolved::Lengths(n) => lengths_word(n),
-        Resolved::Refused(refusal) => refusal_word(refusal),
-    }
+    records::resolve_under(text, block, lists, ground, effects, notes, work, 64)
 }

@@ -1,68 +1,22 @@
--- `dumachik::mfl_resolve` meets its contract: what it gives and the place of what it refuses are small enough for its word, which is all that it
--- does beside Resolve. Assumes nothing.
-use mathlib.Core.Path.{_≡_, _∙_, ap, sym, subst}
-use lib.ListN.{length}
-use denote.Ref.{now}
-use borrow.Author.Needs.{needs}
-use Rattle.resolving.specs.Call.{lengthsOf, resolveCall}
-use Rattle.resolve.specs.Answers.{resolvedAs, lent}
-use Rattle.dumachik.specs.Resolved.{resolvedWord, Small}
-use Rattle.dumachik.proofs.ResolvedBelow.{resolved-small}
-use Rattle.dumachik.proofs.mfl_resolve.Statement.{statement}
-use Rattle.dumachik.proofs.mfl_resolve.Tie as tie
+-- `dumachik::mfl_resolve` meets its contract, by the law of a call that passes all on (`Pass`): it is Resolve with records under the limit 64.
+-- Assumes nothing.
+use contract.Running.{givenOf, tables, tablesOf}
+use denote.Triple.Spec.{tripleOf}
+use denote.Triple.Table.{entered, cited}
+use Rattle.record_laws.proofs.Call.{CallAt}
+use Rattle.record_laws.proofs.Pass.{pass-meets}
+use Rattle.records.proofs.Storing.{shape}
+use Rattle.records.proofs.resolve_under.Symbol as called
+use Rattle.records.proofs.resolve_under.Met as called-thm
+use Rattle.dumachik.proofs.mfl_resolve as f
+use Rattle.dumachik.proofs.mfl_resolve.Key.{name}
+use Rattle.dumachik.proofs.mfl_resolve.Statement as stated
+use Rattle.dumachik.proofs.mfl_resolve.Code as code
 
--- where Resolve answered, before the match
-abbrev resolved : tie.At-match-keys1 → tie.After-resolve
-resolved c = c .before .before .before .before .before .before .before
-
-abbrev resolved-too : tie.At-match-keys2 → tie.After-resolve
-resolved-too c = c .before .before .before .before .before .before .before
-
--- its answer has room in the word
-small : (p : tie.After-resolve) → Small (resolvedAs (p .resolve .result))
-small p =
-    let a = p .before .before .before .before .before .before .before .before .before .before .args in
-    subst Small (sym (p .resolve .ensures .0))
-    (resolved-small 64 (now (a .block)) (now (a .lists)) (now (a .text)) (lent (now (a .ground)) (now (a .effects)) (now (a .notes))) (length (now (a .work))))
-
-lengths-word-requires : tie.Need-lengths-word-requires
-unfolding resolvedAs
-lengths-word-requires c κs = subst Small (ap resolvedAs (c .before .n .given .1)) (small (resolved (c .before .before)))
-
-refusal-word-requires : tie.Need-refusal-word-requires
-unfolding resolvedAs
-refusal-word-requires c κs = subst Small (ap resolvedAs (c .before .refusal .given .1)) (small (resolved-too (c .before .before)))
-
-returns : tie.Need-returns
-unfolding resolvedAs
-returns c =
-    let k = c .before .before in
-    let e = resolved (k .before) .resolve .ensures in
-    (c .lengths-word .ensures ∙ ap resolvedWord (sym (ap resolvedAs (k .n .given .1)) ∙ e .0), e .1)
-
-returns-2 : tie.Need-returns-2
-unfolding resolvedAs
-returns-2 c =
-    let k = c .before .before in
-    let e = resolved-too (k .before) .resolve .ensures in
-    (c .refusal-word .ensures ∙ ap resolvedWord (sym (ap resolvedAs (k .refusal .given .1)) ∙ e .0), e .1)
-
-pub mfl-resolve-spec : {M : Type 1} → statement M
-mfl-resolve-spec =
-    tie.close
-    (tie.spec
-    (λ c κs. search needs)
-    (λ c. search needs)
-    lengths-word-requires
-    (λ c. search needs)
-    refusal-word-requires
-    (λ c. search needs)
-    (λ c. search needs)
-    (λ c. search needs)
-    (λ c. search needs)
-    returns
-    (λ c. search needs)
-    (λ c. search needs)
-    (λ c. search needs)
-    (λ c. search needs)
-    returns-2)
+pub mfl-resolve-spec : {M : Type 1} → stated.statement M
+unfolding code.routine tablesOf
+mfl-resolve-spec 𝓤 H 𝓜 𝓖 𝓡 =
+    entered 𝓤 H (tripleOf 𝓤 H (𝓖 .A) f.signature (f.spec 𝓤 H (𝓖 .A) (𝓜 .mem) (𝓡 .run)))
+    (tables 𝓤 H 𝓜 𝓡 code.env .C) (tables 𝓤 H 𝓜 𝓡 code.env .Λ) name code.function (code.unfolded 𝓤 H 𝓜 𝓡)
+    (pass-meets shape called.name 64 tt 𝓤 H (𝓖 .A) (givenOf 𝓤 H 𝓜 𝓖) (tablesOf 𝓤 H 𝓜 (tables 𝓤 H 𝓜 𝓡 code.env))
+    (cited 𝓤 H (CallAt shape 𝓤 H (𝓖 .A)) 𝓜 𝓡 code.env called.name called.routine code.calls-records·resolve-under (called-thm.met 𝓤 H 𝓜 𝓖 𝓡)))
