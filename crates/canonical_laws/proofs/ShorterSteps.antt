@@ -60,12 +60,12 @@ let-width n items =
     omega (arith, name-shape-width n, call-shapes-width (bytes "LET") false args (omega arith))
 
 opened-as-within : {o : ℕ} {x : Shape} {y : Step} → Opened o x y → Within (width x) y
-opened-as-within case.noStatement = halts
+opened-as-within (case.noStatement f) = halts f
 opened-as-within case.aKeyword = on (omega arith)
 opened-as-within (case.aLetKeyword {w} e) = on (omega (arith, same-length w (bytes "LET") e))
 
 turned-within : {limit : ℕ} {s : State} {o : ℕ} {x : Shape} {y : Step} → Turned limit s o x y → Within (stateWidth s + width x) y
-turned-within case.refusing = halts
+turned-within (case.refusing f) = halts f
 turned-within (case.questioned {m}) = on (omega (arith, mark-width m))
 turned-within (case.called {m}) = on (omega (arith, mark-width m))
 turned-within (case.calledMarked {m}) = on (omega (arith, mark-width m))

@@ -11,6 +11,7 @@ use lib.Dec.{eqb}
 use lib.ListN.{length, getD}
 use lib.Seq.{length-take-le, getD-take}
 use Rattle.reading.specs.Answer.{Answer, accepted, refused, _>>=_}
+use Rattle.reading_laws.specs.WellFormed.{given}
 use Rattle.reading_laws.proofs.Giving.{value-given}
 use Rattle.resolving.specs.Lists.{firsts, placeIn, sameBytes}
 use Rattle.resolving.specs.Faults.{unknownName}
@@ -105,7 +106,7 @@ module _ (list : List (List ℕ)) where
 
   -- indexes that are held are below the number of entries
   pub held-below : (ws : List (List ℕ)) (is : List ℕ) → held list (accepted ws) ≡ accepted is → All (λ i. i < length list) is
-  held-below ws is e = all-weaker (λ i h. place-below (sameBytes (getD list i [])) list i h) (value-given (held-gives list (accepted ws)) e .first)
+  held-below ws is e = all-weaker (λ i h. place-below (sameBytes (getD list i [])) list i h) (value-given (held-gives list (given {a = ws} tt)) e .first)
 
 all-at : {P : ℕ → Type 0} {l : List ℕ} → All P l → (k d : ℕ) → k < length l → P (getD l k d)
 all-at finished k d h = absurd (omega arith)

@@ -25,7 +25,7 @@ value-of e = cc
 
 -- a statement's first token never ends it
 opened-goes-on : {o : ℕ} {x : Shape} {y : Step} {s : Statement} → Opened o x y → y ≡ made s → ⊥
-opened-goes-on noStatement e = let z : _≡_ {A = ℕ} 0 1 = cc in omega arith
+opened-goes-on (noStatement f) e = let z : _≡_ {A = ℕ} 0 1 = cc in omega arith
 opened-goes-on aKeyword e = let z : _≡_ {A = ℕ} 0 1 = cc in omega arith
 opened-goes-on (aLetKeyword l) e = let z : _≡_ {A = ℕ} 0 1 = cc in omega arith
 

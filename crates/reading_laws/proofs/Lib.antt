@@ -24,3 +24,4 @@ pub mod Within
 pub mod Among
 pub mod NameSteps
 pub mod Spelled
+pub mod Faults

@@ -72,13 +72,13 @@ abbrev pub Named : List Name → Step → Type 0
 Named ns x = Leads (λ s. Among (stateNames s) ns) (λ s. Among (statementNames s) ns) x
 
 opened-as-named : {o : ℕ} {x : Shape} {y : Step} → Opened o x y → Named [] y
-opened-as-named case.noStatement = halts
+opened-as-named (case.noStatement f) = halts f
 opened-as-named case.aKeyword = goes (among-all [])
 opened-as-named (case.aLetKeyword e) = goes (among-all [])
 
 turned-named : {limit : ℕ} {s : State} {o : ℕ} {x : Shape} {y : Step} → Turned limit s o x y → Named (namesThen (stateNames s) o x) y
 unfolding partsOf
-turned-named case.refusing = halts
+turned-named (case.refusing f) = halts f
 turned-named case.questioned = goes (among-all [])
 turned-named case.called = goes (among-all [])
 turned-named case.calledMarked = goes (among-all [])

@@ -232,7 +232,7 @@ module _ (limit : ℕ) where
 
   n-alone-taken : (b : Option Arg) {a : Arg} → isN a ≡ true → Gives (λ c. TakenAs limit a (transitsPart c) × After b c) (nAlone b)
   n-alone-taken none e = given (anN e, refl)
-  n-alone-taken (some b) e = nothing
+  n-alone-taken (some b) e = nothing refl
 
   transits-taken : (a : Arg) (b : Option Arg) → Gives (λ c. TakenAs limit a (transitsPart c) × After b c) (transitsOf limit a b)
   unfolding transitsOf
@@ -253,7 +253,7 @@ module _ (limit : ℕ) where
   unfolding explicit
   explicit-taken true a allModes e = given (e, refl)
   explicit-taken true a (modes ms) e = given (e, refl)
-  explicit-taken false a allModes e = nothing
+  explicit-taken false a allModes e = nothing refl
   explicit-taken false a (modes ms) e = given (e, refl)
 
   operator-taken : (o : Option Arg) → Gives (λ op. Others limit (maybe o) (operatorPart op ∷ [])) (operatorOf o)
@@ -261,10 +261,10 @@ module _ (limit : ℕ) where
   operator-taken none = given meant
   operator-taken (some (star o)) = given multiplied
   operator-taken (some (plus o)) = given added
-  operator-taken (some (symbol o n)) = nothing
-  operator-taken (some (single i)) = nothing
-  operator-taken (some (range o a b)) = nothing
-  operator-taken (some (array o is)) = nothing
+  operator-taken (some (symbol o n)) = nothing refl
+  operator-taken (some (single i)) = nothing refl
+  operator-taken (some (range o a b)) = nothing refl
+  operator-taken (some (array o is)) = nothing refl
 
   -- a feature by its parts
   built :
@@ -390,7 +390,7 @@ build-taken limit k m args = go (find (k .spelling) keywords) refl
         → (w : Option Keyword)
         → getElem? features i ≡ w
         → Gives (λ f. (i : ℕ) × (find (k .spelling) keywords ≡ some i) × Built limit i m args f) (knownFeature limit w k m args)
-    known i e none h = nothing
+    known i e none h = nothing refl
     known i e (some w) h =
         gives-more (feature-taken limit w k m args) λ f b.
         (keywordPlace w, e ∙ ap some (sym (place-at features 0 i w refl h ∙ omega arith)), b)
@@ -399,5 +399,5 @@ build-taken limit k m args = go (find (k .spelling) keywords) refl
         (r : Option ℕ)
         → find (k .spelling) keywords ≡ r
         → Gives (λ f. (i : ℕ) × (find (k .spelling) keywords ≡ some i) × Built limit i m args f) (knownFeature limit (featureAt r) k m args)
-    go none e = nothing
+    go none e = nothing refl
     go (some i) e = known i e (getElem? features i) refl

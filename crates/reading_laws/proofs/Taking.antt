@@ -74,7 +74,7 @@ module _ (limit : ℕ) where
   mode-taken f n = go (find (n .spelling) (labelsOf f)) refl
     where
       go : (r : Option ℕ) → find (n .spelling) (labelsOf f) ≡ r → Gives (IsMode f n) (modeAt n r)
-      go none e = nothing
+      go none e = nothing refl
       go (some m) e = given e
 
   mode-list-taken : (f : Family) (is : List Item) → Gives (EachTaken (IsMode f) is) (modeList f is)
@@ -85,16 +85,16 @@ module _ (limit : ℕ) where
 
   lone-mode-taken : (f : Family) (k : Kind) (n : Name) → Gives (λ ms. TakenAs limit (single (itemOf k n)) (modesPart f ms)) (loneMode f k n)
   lone-mode-taken f aWord n = gives-bind (mode-taken f n) λ m e. given (oneMode e)
-  lone-mode-taken f aNumber n = nothing
+  lone-mode-taken f aNumber n = nothing refl
 
   pub modes-taken : (f : Family) (a : Arg) → Gives (λ ms. TakenAs limit a (modesPart f ms)) (modesOf f a)
   unfolding modesOf
   modes-taken f (star o) = given everyMode
-  modes-taken f (plus o) = nothing
-  modes-taken f (symbol o n) = nothing
+  modes-taken f (plus o) = nothing refl
+  modes-taken f (symbol o n) = nothing refl
   modes-taken f (single i) = lone-mode-taken f (i .kind) (i .name)
-  modes-taken f (range o a b) = nothing
-  modes-taken f (array o []) = nothing
+  modes-taken f (range o a b) = nothing refl
+  modes-taken f (array o []) = nothing refl
   modes-taken f (array o (i ∷ is)) = gives-bind (mode-list-taken f (i ∷ is)) λ ms e. given (someModes e)
 
   -- counts
@@ -108,9 +108,9 @@ module _ (limit : ℕ) where
           → leb (value (n .spelling)) 4294967295 ≡ b
           → leb (value (n .spelling)) limit ≡ c
           → Gives (IsCount limit n) (counted n (cond (a && b && c) (Count (value (n .spelling))) Refused))
-      go false b c d e h = nothing
-      go true false c d e h = nothing
-      go true true false d e h = nothing
+      go false b c d e h = nothing refl
+      go true false c d e h = nothing refl
+      go true true false d e h = nothing refl
       go true true true d e h = given (aCount d (both e h))
 
   pub range-taken : (low high : Name) → Gives (RangeTaken limit low high) (rangeOf limit low high)
@@ -124,11 +124,11 @@ module _ (limit : ℕ) where
           → (t : Bool)
           → ltb b a ≡ t
           → Gives (RangeTaken limit low high) (cond t (backwards (low .place)) (accepted (range (low .place) a b)))
-      go a b e h true l = nothing
+      go a b e h true l = nothing refl
       go a b e h false l = given (fromTo e h (ltb-false b a l))
 
   count-item-taken : (o : ℕ) (k : Kind) (n : Name) → Gives (IsCount limit n) (countItem limit o k n)
-  count-item-taken o aWord n = nothing
+  count-item-taken o aWord n = nothing refl
   count-item-taken o aNumber n = count-taken n
 
   count-list-taken : (o : ℕ) (is : List Item) → Gives (EachTaken (IsCount limit) is) (countList limit o is)
@@ -138,38 +138,38 @@ module _ (limit : ℕ) where
       gives-bind (count-item-taken o (i .kind) (i .name)) λ c h. gives-bind (count-list-taken o is) λ cs t. given (oneTaken h t)
 
   lone-count-taken : (k : Kind) (n : Name) → Gives (λ c. TakenAs limit (single (itemOf k n)) (countsPart c)) (loneCount limit k n)
-  lone-count-taken aWord n = nothing
+  lone-count-taken aWord n = nothing refl
   lone-count-taken aNumber n = gives-bind (count-taken n) λ v e. given (oneCount e)
 
   pub counts-taken : (a : Arg) → Gives (λ c. TakenAs limit a (countsPart c)) (countsOf limit a)
   unfolding countsOf
-  counts-taken (star o) = nothing
-  counts-taken (plus o) = nothing
-  counts-taken (symbol o n) = nothing
+  counts-taken (star o) = nothing refl
+  counts-taken (plus o) = nothing refl
+  counts-taken (symbol o n) = nothing refl
   counts-taken (single i) = lone-count-taken (i .kind) (i .name)
   counts-taken (range o a b) = given aRange
-  counts-taken (array o []) = nothing
+  counts-taken (array o []) = nothing refl
   counts-taken (array o (i ∷ is)) = gives-bind (count-list-taken o (i ∷ is)) λ vs e. given (someCounts e)
 
   -- parameters or covariates, and the values of a LET
   pub operand-taken : (a : Arg) → Gives (λ p. TakenAs limit a (operandPart p)) (operandOf a)
   unfolding operandOf
   operand-taken (star o) = given everyName
-  operand-taken (plus o) = nothing
+  operand-taken (plus o) = nothing refl
   operand-taken (symbol o n) = given aSymbol
   operand-taken (single i) = given oneName
-  operand-taken (range o a b) = nothing
-  operand-taken (array o []) = nothing
+  operand-taken (range o a b) = nothing refl
+  operand-taken (array o []) = nothing refl
   operand-taken (array o (i ∷ is)) = given someNames
 
   pub values-taken : (a : Arg) → Gives (λ is. TakenAs limit a (valuesPart is)) (itemsOf a)
   unfolding itemsOf
-  values-taken (star o) = nothing
-  values-taken (plus o) = nothing
-  values-taken (symbol o n) = nothing
+  values-taken (star o) = nothing refl
+  values-taken (plus o) = nothing refl
+  values-taken (symbol o n) = nothing refl
   values-taken (single i) = given oneValue
-  values-taken (range o a b) = nothing
-  values-taken (array o []) = nothing
+  values-taken (range o a b) = nothing refl
+  values-taken (array o []) = nothing refl
   values-taken (array o (i ∷ is)) = given someValues
 
   -- a name of a kind
@@ -178,15 +178,15 @@ module _ (limit : ℕ) where
 
   alone-taken : (k j : Kind) (n : Name) → Gives (Alone k (single (itemOf j n))) (alone k j n)
   alone-taken aWord aWord n = given (aName, λ w. w)
-  alone-taken aWord aNumber n = nothing
-  alone-taken aNumber aWord n = nothing
+  alone-taken aWord aNumber n = nothing refl
+  alone-taken aNumber aWord n = nothing refl
   alone-taken aNumber aNumber n = given (aName, λ w. w)
 
   pub name-taken : (k : Kind) (a : Arg) → Gives (Alone k a) (nameOf k a)
   unfolding nameOf
-  name-taken k (star o) = nothing
-  name-taken k (plus o) = nothing
-  name-taken k (symbol o n) = nothing
+  name-taken k (star o) = nothing refl
+  name-taken k (plus o) = nothing refl
+  name-taken k (symbol o n) = nothing refl
   name-taken k (single i) = alone-taken k (i .kind) (i .name)
-  name-taken k (range o a b) = nothing
-  name-taken k (array o is) = nothing
+  name-taken k (range o a b) = nothing refl
+  name-taken k (array o is) = nothing refl

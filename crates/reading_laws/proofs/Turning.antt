@@ -54,18 +54,19 @@ use Rattle.reading_laws.specs.Taken.{RangeTaken, TakenAs}
 use Rattle.reading_laws.specs.Turned.{Leads, goes, makes, halts, Opened, Turned}
 use Rattle.reading_laws.specs.Turned as case
 use Rattle.reading_laws.proofs.Taking.{range-taken, values-taken}
+use Rattle.reading_laws.proofs.Parts.{build-taken}
 
 -- what a step is known for
 module _ {P : State → Type 0} {Q : Statement → Type 0} where
   pub leads-more : {x : Step} {s : State} → Leads P Q x → x ≡ more s → P s
   leads-more {s} (goes {s = t} h) e = let z : t ≡ s = cc in subst P z h
   leads-more (makes h) e = let z : _≡_ {A = ℕ} 0 1 = cc in absurd (omega arith)
-  leads-more halts e = let z : _≡_ {A = ℕ} 0 1 = cc in absurd (omega arith)
+  leads-more (halts f) e = let z : _≡_ {A = ℕ} 0 1 = cc in absurd (omega arith)
 
   pub leads-made : {x : Step} {s : Statement} → Leads P Q x → x ≡ made s → Q s
   leads-made (goes h) e = let z : _≡_ {A = ℕ} 0 1 = cc in absurd (omega arith)
   leads-made {s} (makes {x = t} h) e = let z : t ≡ s = cc in subst Q z h
-  leads-made halts e = let z : _≡_ {A = ℕ} 0 1 = cc in absurd (omega arith)
+  leads-made (halts f) e = let z : _≡_ {A = ℕ} 0 1 = cc in absurd (omega arith)
 
 -- A statement's first token.
 pub opening : (o : ℕ) (x : Shape) → Opened o x (opened o x)
@@ -75,8 +76,8 @@ opening o (word w) = go (sameWord w (bytes "LET")) refl
     go : (t : Bool) → sameWord w (bytes "LET") ≡ t → Opened o (word w) (cond t (more letKeyword) (more (keyword (name o w))))
     go true e = case.aLetKeyword e
     go false e = case.aKeyword
-opening o (number w) = case.noStatement
-opening o (mark m) = case.noStatement
+opening o (number w) = case.noStatement refl
+opening o (mark m) = case.noStatement refl
 
 module _ {limit : ℕ} {s : State} {o : ℕ} {x : Shape} where
   -- one step or another, by a test
@@ -86,10 +87,13 @@ module _ {limit : ℕ} {s : State} {o : ℕ} {x : Shape} where
 
   -- a feature, a LET and a range that are made of an answer
   feature-turned :
-      (r : Answer Feature) → ((f : Feature) → r ≡ accepted f → Turned limit s o x (made (feature f))) → Turned limit s o x (featureMade r)
+      {P : Feature → Type 0} {r : Answer Feature}
+      → Gives P r
+      → ((f : Feature) → r ≡ accepted f → Turned limit s o x (made (feature f)))
+      → Turned limit s o x (featureMade r)
   unfolding featureMade
-  feature-turned (accepted f) h = h f refl
-  feature-turned (refused n p) h = case.refusing
+  feature-turned (given g) h = h _ refl
+  feature-turned (nothing e) h = case.refusing e
 
   -- one more item of an array
   entered-turned :
@@ -100,21 +104,21 @@ module _ {limit : ℕ} {s : State} {o : ℕ} {x : Shape} where
     where
       go : (t : Bool) → ltb (length items) 64 ≡ t → Turned limit s o x (cond t y (overfull o))
       go true e = h (ltb-true (length items) 64 e)
-      go false e = case.refusing
+      go false e = case.refusing refl
 
 range-turned :
     {limit o : ℕ} (c : Call) (n : Name) {w : List ℕ} {r : Answer Arg}
     → Gives (RangeTaken limit n (name o w)) r
     → Turned limit (rangeOpen c n) o (number w) (rangeRead c r)
 range-turned c n (given t) = case.aRange t
-range-turned c n nothing = case.refusing
+range-turned c n (nothing e) = case.refusing e
 
 module _ {limit o m : ℕ} where
   -- the `)` where the first argument would start, and the `)` and the `,` after one
   empty-turned : (c : Call) → Turned limit (argument c) o (mark m) (empty limit o c)
-  empty-turned (featureCall k q []) = feature-turned (buildFeature limit k q []) λ f e. case.noArgument e
-  empty-turned (featureCall k q (a ∷ rest)) = case.refusing
-  empty-turned (letCall n) = case.refusing
+  empty-turned (featureCall k q []) = feature-turned (build-taken limit k q []) λ f e. case.noArgument e
+  empty-turned (featureCall k q (a ∷ rest)) = case.refusing refl
+  empty-turned (letCall n) = case.refusing refl
 
   let-turned :
       (n : Name) (a : Arg) {r : Answer (List Item)}
@@ -122,19 +126,19 @@ module _ {limit o m : ℕ} where
       → Turned limit (argumentRead (letCall n) a) o (mark m) (letMade n r)
   unfolding letMade
   let-turned n a (given t) = case.aLet t
-  let-turned n a nothing = case.refusing
+  let-turned n a (nothing e) = case.refusing e
 
   closed-turned : (c : Call) (a : Arg) → Turned limit (argumentRead c a) o (mark m) (closed limit c a)
   unfolding closed
-  closed-turned (featureCall k q args) a = feature-turned (buildFeature limit k q (args ++ a ∷ [])) λ f e. case.aFeature e
+  closed-turned (featureCall k q args) a = feature-turned (build-taken limit k q (args ++ a ∷ [])) λ f e. case.aFeature e
   closed-turned (letCall n) a = let-turned n a (values-taken limit a)
 
   comma-turned : (c : Call) (a : Arg) → Turned limit (argumentRead c a) o (mark m) (comma o c a)
   comma-turned (featureCall k q args) a = case.argumentComma
-  comma-turned (letCall n) a = case.refusing
+  comma-turned (letCall n) a = case.refusing refl
 
   after-argument-turned : (c : Call) (a : Arg) → Turned limit (argumentRead c a) o (mark m) (afterArgument limit o m c a)
-  after-argument-turned c a = either (is "," m) (comma-turned c a) (either (is ")" m) (closed-turned c a) case.refusing)
+  after-argument-turned c a = either (is "," m) (comma-turned c a) (either (is ")" m) (closed-turned c a) (case.refusing refl))
 
   after-number-turned : (c : Call) (n : Name) → Turned limit (numberRead c n) o (mark m) (turn limit (numberRead c n) o (mark m))
   unfolding turn
@@ -151,21 +155,21 @@ module _ {limit o m : ℕ} where
 -- What a token makes of what was read is one of the cases.
 pub turning : (limit : ℕ) (s : State) (o : ℕ) (x : Shape) → Turned limit s o x (turn limit s o x)
 unfolding turn
-turning limit (keyword k) o (word w) = case.refusing
-turning limit (keyword k) o (number w) = case.refusing
-turning limit (keyword k) o (mark m) = either (is "?" m) case.questioned (either (is "(" m) case.called case.refusing)
-turning limit (marked k) o (word w) = case.refusing
-turning limit (marked k) o (number w) = case.refusing
-turning limit (marked k) o (mark m) = either (is "(" m) case.calledMarked case.refusing
-turning limit letKeyword o (word w) = case.refusing
-turning limit letKeyword o (number w) = case.refusing
-turning limit letKeyword o (mark m) = either (is "(" m) case.calledLet case.refusing
+turning limit (keyword k) o (word w) = case.refusing refl
+turning limit (keyword k) o (number w) = case.refusing refl
+turning limit (keyword k) o (mark m) = either (is "?" m) case.questioned (either (is "(" m) case.called (case.refusing refl))
+turning limit (marked k) o (word w) = case.refusing refl
+turning limit (marked k) o (number w) = case.refusing refl
+turning limit (marked k) o (mark m) = either (is "(" m) case.calledMarked (case.refusing refl)
+turning limit letKeyword o (word w) = case.refusing refl
+turning limit letKeyword o (number w) = case.refusing refl
+turning limit letKeyword o (mark m) = either (is "(" m) case.calledLet (case.refusing refl)
 turning limit letOpen o (word w) = case.named
-turning limit letOpen o (number w) = case.refusing
-turning limit letOpen o (mark m) = case.refusing
-turning limit (letNamed n) o (word w) = case.refusing
-turning limit (letNamed n) o (number w) = case.refusing
-turning limit (letNamed n) o (mark m) = either (is "," m) case.valued case.refusing
+turning limit letOpen o (number w) = case.refusing refl
+turning limit letOpen o (mark m) = case.refusing refl
+turning limit (letNamed n) o (word w) = case.refusing refl
+turning limit (letNamed n) o (number w) = case.refusing refl
+turning limit (letNamed n) o (mark m) = either (is "," m) case.valued (case.refusing refl)
 turning limit (argument c) o (word w) = case.aWordAlone
 turning limit (argument c) o (number w) = case.aNumberFirst
 turning limit (argument c) o (mark m) =
@@ -174,25 +178,25 @@ turning limit (argument c) o (mark m) =
     (either (is "@" m) case.anAt
     (either (is "[" m) case.aBracket
     (either (is ")" m) (empty-turned c)
-    case.refusing))))
+    (case.refusing refl)))))
 turning limit (atSign c p) o (word w) = case.aSymbol
-turning limit (atSign c p) o (number w) = case.refusing
-turning limit (atSign c p) o (mark m) = case.refusing
-turning limit (numberRead c n) o (word w) = case.refusing
-turning limit (numberRead c n) o (number w) = case.refusing
+turning limit (atSign c p) o (number w) = case.refusing refl
+turning limit (atSign c p) o (mark m) = case.refusing refl
+turning limit (numberRead c n) o (word w) = case.refusing refl
+turning limit (numberRead c n) o (number w) = case.refusing refl
 turning limit (numberRead c n) o (mark m) = after-number-turned c n
-turning limit (rangeOpen c n) o (word w) = case.refusing
+turning limit (rangeOpen c n) o (word w) = case.refusing refl
 turning limit (rangeOpen c n) o (number w) = range-turned c n (range-taken limit n (name o w))
-turning limit (rangeOpen c n) o (mark m) = case.refusing
+turning limit (rangeOpen c n) o (mark m) = case.refusing refl
 turning limit (arrayOpen c p) o (word w) = case.firstWord
 turning limit (arrayOpen c p) o (number w) = case.firstNumber
-turning limit (arrayOpen c p) o (mark m) = either (is "]" m) case.emptyArray case.refusing
+turning limit (arrayOpen c p) o (mark m) = either (is "]" m) case.emptyArray (case.refusing refl)
 turning limit (item c p items) o (word w) = entered-turned items case.nextWord
 turning limit (item c p items) o (number w) = entered-turned items case.nextNumber
-turning limit (item c p items) o (mark m) = case.refusing
-turning limit (itemRead c p items) o (word w) = case.refusing
-turning limit (itemRead c p items) o (number w) = case.refusing
-turning limit (itemRead c p items) o (mark m) = either (is "," m) case.itemComma (either (is "]" m) case.anArray case.refusing)
-turning limit (argumentRead c a) o (word w) = case.refusing
-turning limit (argumentRead c a) o (number w) = case.refusing
+turning limit (item c p items) o (mark m) = case.refusing refl
+turning limit (itemRead c p items) o (word w) = case.refusing refl
+turning limit (itemRead c p items) o (number w) = case.refusing refl
+turning limit (itemRead c p items) o (mark m) = either (is "," m) case.itemComma (either (is "]" m) case.anArray (case.refusing refl))
+turning limit (argumentRead c a) o (word w) = case.refusing refl
+turning limit (argumentRead c a) o (number w) = case.refusing refl
 turning limit (argumentRead c a) o (mark m) = after-argument-turned c a

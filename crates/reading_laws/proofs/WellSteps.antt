@@ -51,13 +51,13 @@ module _ (limit : ℕ) where
       (both (and-right (all (wellArg limit) args) (wellArg limit a) w) refl)
 
   opened-as-well : {o : ℕ} {x : Shape} {y : Step} → Opened o x y → Well limit y
-  opened-as-well case.noStatement = halts
+  opened-as-well (case.noStatement f) = halts f
   opened-as-well case.aKeyword = goes refl
   opened-as-well (case.aLetKeyword e) = goes refl
 
   turned-well :
       {s : State} {o : ℕ} {x : Shape} {y : Step} → Turned limit s o x y → isShape x ≡ true → wellState limit s ≡ true → Well limit y
-  turned-well case.refusing e h = halts
+  turned-well (case.refusing f) e h = halts f
   turned-well case.questioned e h = goes refl
   turned-well case.called e h = goes refl
   turned-well case.calledMarked e h = goes refl

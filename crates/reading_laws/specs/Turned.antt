@@ -38,23 +38,24 @@ use Rattle.reading.specs.Syntax.{
   itemAs,
   name,
 }
+use Rattle.reading_laws.specs.WellFormed.{isFault}
 use Rattle.reading_laws.specs.Taken.{RangeTaken, TakenAs}
 
--- A step to a state or to a statement of which something holds, or a refusal.
+-- A step to a state or to a statement of which something holds, or a refusal by the number of a fault.
 pub data Leads (P : State → Type 0) (Q : Statement → Type 0) : Step → Type 0 where
   goes : {s : State} → P s → Leads P Q (more s)
   makes : {x : Statement} → Q x → Leads P Q (made x)
-  halts : {n p : ℕ} → Leads P Q (stop n p)
+  halts : {n p : ℕ} → isFault n ≡ true → Leads P Q (stop n p)
 
 -- a statement's first token
 pub data Opened : ℕ → Shape → Step → Type 0 where
-  noStatement : {o : ℕ} {x : Shape} {n p : ℕ} → Opened o x (stop n p)
+  noStatement : {o : ℕ} {x : Shape} {n p : ℕ} → isFault n ≡ true → Opened o x (stop n p)
   aKeyword : {o : ℕ} {w : List ℕ} → Opened o (word w) (more (keyword (name o w)))
   aLetKeyword : {o : ℕ} {w : List ℕ} → sameWord w (bytes "LET") ≡ true → Opened o (word w) (more letKeyword)
 
 -- a token inside one
 pub data Turned (limit : ℕ) : State → ℕ → Shape → Step → Type 0 where
-  refusing : {s : State} {o : ℕ} {x : Shape} {n p : ℕ} → Turned limit s o x (stop n p)
+  refusing : {s : State} {o : ℕ} {x : Shape} {n p : ℕ} → isFault n ≡ true → Turned limit s o x (stop n p)
   -- the keyword of a feature, its `?` and its `(`
   questioned : {k : Name} {o m : ℕ} → Turned limit (keyword k) o (mark m) (more (marked k))
   called : {k : Name} {o m : ℕ} → Turned limit (keyword k) o (mark m) (more (argument (featureCall k false [])))

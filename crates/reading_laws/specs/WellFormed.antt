@@ -1,6 +1,7 @@
 -- What every statement is that a text is read as: its names are words or numbers, a list of it has one entry to 64, its modes are places in
 -- their family, none twice, its counts keep within the limit, and its arguments stand together as its feature asks.
 use Prim.Native.Nat.{ℕ}
+use mathlib.Core.Path.{_≡_}
 use mathlib.Core.Bool.{Bool, true, false, not, _&&_}
 use mathlib.Core.List.{List, [], _∷_}
 use mathlib.Core.Option.{Option, some, none}
@@ -223,7 +224,11 @@ wellWhere limit (inside s) = wellState limit s
 
 -- Answers.
 
--- a value that is accepted is as said
+-- the numbers of faults
+abbrev pub isFault : ℕ → Bool
+isFault n = leb 1 n && leb n 20
+
+-- a value that is accepted is as said, and what is refused is so by the number of a fault
 pub data Gives {A : Type 0} (P : A → Type 0) : Answer A → Type 0 where
   given : {a : A} → P a → Gives P (accepted a)
-  nothing : {n p : ℕ} → Gives P (refused n p)
+  nothing : {n p : ℕ} → isFault n ≡ true → Gives P (refused n p)

@@ -10,12 +10,15 @@ use lib.ListN.{getD}
 use borrow.Author.Tests.{eqb-true, eq-eqb}
 use Rattle.text.proofs.Tests.{halves}
 use Rattle.labels.specs.Word.{oneLater}
-use Rattle.reading.specs.Statement.{Name}
+use Rattle.reading.specs.Statement.{Name, Operand, everyone, symbol, names}
 use Rattle.reading.specs.Answer.{Answer, accepted, refused, _>>=_}
 use Rattle.reading_laws.specs.WellFormed.{Gives, given, nothing}
 use Rattle.reading_laws.proofs.Giving.{gives-bind}
+use Rattle.reading_laws.proofs.Faults.{Anything}
 use Rattle.resolving.specs.Lists.{firsts, placeIn, sameBytes}
-use Rattle.resolving.specs.Operands.{entered, entryOf, entriesOf, held}
+use Rattle.resolving.specs.Context.{Context, covariates}
+use Rattle.resolving.specs.Symbols.{Meaning}
+use Rattle.resolving.specs.Operands.{known, namesOf, entered, entryOf, entriesOf, held, parametersOf, covariatesOf}
 use Rattle.resolving.specs.Brought.{plainName}
 use Rattle.resolving_laws.proofs.Bools.{none≢some}
 use Rattle.resolving_laws.proofs.All.{All, finished, also, all-firsts}
@@ -62,11 +65,11 @@ place-entry w (v ∷ list) i e = by-cases (sameBytes w v) (placeIn (sameBytes w)
         let z : suc j ≡ i = cc in
         subst (λ (k : ℕ). getD (v ∷ list) k [] ≡ w) z (r j p)
 
-entry-first : (list : List (List ℕ)) (w : List ℕ) → Gives (FirstAt list) (entryOf list w)
+pub entry-first : (list : List (List ℕ)) (w : List ℕ) → Gives (FirstAt list) (entryOf list w)
 entry-first list w = by-cases (placeIn (sameBytes w) list) refl
   where
     by-cases : (o : Option ℕ) → placeIn (sameBytes w) list ≡ o → Gives (FirstAt list) (entered o)
-    by-cases none e = nothing
+    by-cases none e = nothing refl
     by-cases (some i) e = given (subst (λ (v : List ℕ). placeIn (sameBytes v) list ≡ some i) (sym (place-entry w list i e)) e)
 
 entries-first : (list ws : List (List ℕ)) → Gives (All (FirstAt list)) (entriesOf list ws)
@@ -74,11 +77,26 @@ entries-first list [] = given finished
 entries-first list (w ∷ ws) =
     gives-bind (entry-first list w) (λ i h. gives-bind (entries-first list ws) (λ is hs. given (also h hs)))
 
-pub held-gives : (list : List (List ℕ)) (ws : Answer (List (List ℕ))) → Gives (Entries list) (held list ws)
-held-gives list (refused n p) = nothing
-held-gives list (accepted ws) =
+pub held-gives : (list : List (List ℕ)) {ws : Answer (List (List ℕ))} → Gives Anything ws → Gives (Entries list) (held list ws)
+held-gives list g =
+    gives-bind g λ ws t.
     gives-bind (entries-first list ws)
     (λ is h. given (record { first = all-firsts eqb h; once = once-firsts eqb (firsts eqb is) (firsts-once eqb is) }))
+
+known-gives : (o : Option (List (List ℕ))) → Gives Anything (known o)
+known-gives none = nothing refl
+known-gives (some ws) = given tt
+
+names-give : (look : Meaning) {star : Answer (List (List ℕ))} (o : Operand) → Gives Anything star → Gives Anything (namesOf look star o)
+names-give look everyone h = h
+names-give look (symbol n) h = known-gives (look (n .spelling))
+names-give look (names ns) h = given tt
+
+pub parameters-give : (c : Context) (look : Meaning) (star : List ℕ) (o : Operand) → Gives (Entries (c .parameters)) (parametersOf c look star o)
+parameters-give c look star o = held-gives (c .parameters) (names-give look o (known-gives (look star)))
+
+pub covariates-give : (c : Context) (look : Meaning) (o : Operand) → Gives (Entries (covariates c)) (covariatesOf c look o)
+covariates-give c look o = held-gives (covariates c) (names-give look o (given {a = covariates c} tt))
 
 -- Names that are listed are entered again.
 

@@ -41,3 +41,4 @@ pub mod GivenReadable
 pub mod FlatLaws
 -- The theorems.
 pub mod Texts
+pub mod Faults

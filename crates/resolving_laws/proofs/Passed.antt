@@ -41,7 +41,7 @@ bind-passed (refused n p) f e = absurd (refused≢accepted e)
 
 pub gives-accepted : {A : Type 0} {P : A → Type 0} {a : Answer A} {x : A} → Gives P a → a ≡ accepted x → P x
 gives-accepted {P} {x} (given {a} h) e = let z : a ≡ x = cc in subst P z h
-gives-accepted nothing e = absurd (refused≢accepted e)
+gives-accepted (nothing f) e = absurd (refused≢accepted e)
 
 -- What holds of each answer holds of all.
 pub each-gives :
@@ -51,7 +51,7 @@ each-gives {P} f i (also h r) = gives-bind (at-index h) (λ y k. gives-bind (eac
   where
     at-index : {C : Type 0} {Q : C → Type 0} {a : Answer C} → Gives Q a → Gives Q (atIndex i a)
     at-index (given h) = given h
-    at-index nothing = nothing
+    at-index (nothing e) = nothing e
 
 -- What each of a list is answered with, in their order.
 pub data Each {A B : Type 0} (f : A → Answer B) : List A → List B → Type 0 where

@@ -49,17 +49,17 @@ use Rattle.reading.specs.Statement.{
 }
 use Rattle.reading.specs.Answer.{Answer, accepted, refused, _>>=_}
 use Rattle.reading_laws.specs.WellFormed.{Gives, given, nothing}
-use Rattle.reading_laws.proofs.Giving.{gives-bind}
+use Rattle.reading_laws.proofs.Giving.{gives-bind, fault-given}
 use Rattle.resolving.specs.Lists.{any, gather, isNil}
 use Rattle.resolving.specs.Context.{Context, covariates, kindAt}
 use Rattle.resolving.specs.Symbols.{Meaning}
-use Rattle.resolving.specs.Operands.{namesOf, known, entryOf, held}
+use Rattle.resolving.specs.Operands.{entryOf, held}
 use Rattle.resolving.specs.Effects.{formsOf, suits, optionalNumber, operatorNumber, formEffects, effectsOf, against}
 use Rattle.resolving.specs.Brought.{dropped, stays, brings, isExplicit, whole, plainName, listed, dropIf, bringFeature, bring, eachFrom}
 use Rattle.resolving_laws.proofs.All.{All, all-both, all-gather, all-map, none-all, all-of}
 use Rattle.resolving_laws.proofs.Passed.{each-gives}
 use Rattle.resolving_laws.proofs.EffectLaws.{mark-back, operator-back}
-use Rattle.resolving_laws.proofs.Entries.{FirstAt, Entries, held-again, held-gives, spelledOut}
+use Rattle.resolving_laws.proofs.Entries.{FirstAt, Entries, entry-first, held-again, parameters-give, covariates-give, spelledOut}
 use Rattle.resolving.specs.Ground.{groupOf}
 use Rattle.resolving_laws.proofs.Stands.{Written, Suited, Stands, stands-dropped, stands-effects, stands-itself, stands-defining}
 
@@ -142,7 +142,7 @@ module _ (c : Context) where
           (λ (a : Answer ℕ) (o : Option Name). a >>= λ i. accepted (stays (Allometry (plainName (n .spelling)) o)))
           e
           (twice r)))
-      by-cases (refused k p) e = nothing
+      by-cases (refused k p) e = nothing (fault-given (entry-first (covariates c) (n .spelling)) e)
 
   stay : (f : Feature) → ((look : Meaning) → bringFeature c look f ≡ accepted (stays f)) → Gives (Stands c) (accepted (stays f))
   stay f h = given (stands-itself h)
@@ -155,7 +155,7 @@ module _ (c : Context) where
       → any (against c es) vs ≡ t
       → Gives (Stands c) (cond s (accepted dropped) (cond t (refused 16 0) (accepted (brings x (effectsOf c m es op is vs)))))
   covariate-stands m x es op h k true t e = given stands-dropped
-  covariate-stands m x es op h k false true e = nothing
+  covariate-stands m x es op h k false true e = nothing refl
   covariate-stands m x es op {is} {vs} h k false false e =
       given (stands-effects (operatorNumber op) (effects-stand m es op (h .first) (all-both (k .first) (none-all (against c es) vs e))))
 
@@ -166,9 +166,9 @@ module _ (c : Context) where
   feature-stands look (Transits n ms) = stay (Transits n (Option·map (whole DepotMode) ms)) (λ l. simp some-whole)
   feature-stands look (Lagtime ms) = stay (Lagtime (whole LagtimeMode ms)) (λ l. simp whole-twice)
   feature-stands look (Covariate m ps cs es op) =
-      gives-bind (held-gives (c .parameters) (namesOf look (known (look (bytes "PK"))) ps))
+      gives-bind (parameters-give c look (bytes "PK") ps)
       (λ is h.
-      gives-bind (held-gives (covariates c) (namesOf look (accepted (covariates c)) cs))
+      gives-bind (covariates-give c look cs)
       (λ vs k. covariate-stands m (isExplicit ps) es op h k (isNil is || isNil vs) (any (against c es) vs) refl))
   feature-stands look (Allometry n r) = allometry-stands n r look
   feature-stands look (DirectEffect ms) = stay (DirectEffect (whole PdMode ms)) (λ l. simp whole-twice)
@@ -176,13 +176,13 @@ module _ (c : Context) where
   feature-stands look (IndirectEffect ms ps) = stay (IndirectEffect (whole PdMode ms) (whole ProductionMode ps)) (λ l. simp whole-twice)
   feature-stands look (Metabolite ms) = stay (Metabolite (whole MetaboliteMode ms)) (λ l. simp whole-twice)
   feature-stands look (Iiv m ps es) =
-      gives-bind (held-gives (c .parameters) (namesOf look (known (look (bytes "PK"))) ps))
+      gives-bind (parameters-give c look (bytes "PK") ps)
       (λ is h. given (listed-stands isNil (λ js. Iiv m (listed (c .parameters) js) (whole VariabilityEffect es)) h (λ l. simp whole-twice)))
   feature-stands look (Iov m ps es) =
-      gives-bind (held-gives (c .parameters) (namesOf look (known (look (bytes "IIV"))) ps))
+      gives-bind (parameters-give c look (bytes "IIV") ps)
       (λ is h. given (listed-stands isNil (λ js. Iov m (listed (c .parameters) js) (whole VariabilityEffect es)) h (λ l. simp whole-twice)))
   feature-stands look (Covariance m ls ps) =
-      gives-bind (held-gives (c .parameters) (namesOf look (known (look (bytes "IIV"))) ps))
+      gives-bind (parameters-give c look (bytes "IIV") ps)
       (λ is h.
       given
       (listed-stands

@@ -59,7 +59,6 @@ use Rattle.reading_laws.proofs.Giving.{gives-bind}
 use Rattle.resolving.specs.Lists.{any, gather, isNil}
 use Rattle.resolving.specs.Context.{Context, covariates, kindAt}
 use Rattle.resolving.specs.Symbols.{Meaning}
-use Rattle.resolving.specs.Operands.{known, namesOf, entryOf}
 use Rattle.resolving.specs.Effects.{Effect, optionalNumber, operatorNumber, formEffects, effectsOf, against}
 use Rattle.resolving.specs.Brought.{
   Brought,
@@ -78,7 +77,7 @@ use Rattle.resolving.specs.Brought.{
 }
 use Rattle.resolving_laws.proofs.All.{All, all-of, all-weaker, all-gather, all-map}
 use Rattle.resolving_laws.proofs.Passed.{each-gives}
-use Rattle.resolving_laws.proofs.Entries.{Entries, held-gives}
+use Rattle.resolving_laws.proofs.Entries.{Entries, entry-first, parameters-give, covariates-give}
 use Rattle.resolving_laws.proofs.WellParts.{entry-named, forms-well, listed-well, maybe-whole, whole-well, true-all}
 
 -- A context as far as the ground text goes: each name is one word or one number, and parameters and covariates are at most 64.
@@ -126,7 +125,7 @@ module _ (limit : ℕ) (c : Context) (good : Readable c) (look : Meaning) where
       → wellModes CovariateEffect es ≡ true
       → Gives (Wells limit) (cond s (accepted dropped) (cond t (refused 16 0) (accepted (brings x (effectsOf c m es op is vs)))))
   covariate-well m x es op is vs true t e = given wells-dropped
-  covariate-well m x es op is vs false true e = nothing
+  covariate-well m x es op is vs false true e = nothing refl
   covariate-well m x es op is vs false false e =
       given
       (wells-effects
@@ -159,20 +158,15 @@ module _ (limit : ℕ) (c : Context) (good : Readable c) (look : Meaning) where
       parts-well (Transits (counted n) (Option·map (whole DepotMode) ms)) (p .0, (maybe-whole limit DepotMode ms (p .1 .0), tt)) refl
   of-parts (Lagtime ms) p t = parts-well (Lagtime (whole LagtimeMode ms)) (whole-well LagtimeMode ms (p .0), tt) refl
   of-parts (Covariate m ps cs es op) p t =
-      gives-bind (held-gives (c .parameters) (namesOf look (known (look (bytes "PK"))) ps))
+      gives-bind (parameters-give c look (bytes "PK") ps)
       (λ is h.
-      gives-bind (held-gives (covariates c) (namesOf look (accepted (covariates c)) cs))
+      gives-bind (covariates-give c look cs)
       (λ vs k. covariate-well m (isExplicit ps) es op is vs (isNil is || isNil vs) (any (against c es) vs) (p .1 .1 .0)))
-  of-parts (Allometry n none) p t = by-cases (entryOf (covariates c) (n .spelling))
-    where
-      by-cases : (a : Answer ℕ) → Gives (Wells limit) (a >>= λ i. accepted (stays (Allometry (plainName (n .spelling)) none)))
-      by-cases (accepted i) = parts-well (Allometry (plainName (n .spelling)) none) (p .0, (refl, tt)) t
-      by-cases (refused k q) = nothing
-  of-parts (Allometry n (some r)) p t = by-cases (entryOf (covariates c) (n .spelling))
-    where
-      by-cases : (a : Answer ℕ) → Gives (Wells limit) (a >>= λ i. accepted (stays (Allometry (plainName (n .spelling)) (some (plainName (r .spelling))))))
-      by-cases (accepted i) = parts-well (Allometry (plainName (n .spelling)) (some (plainName (r .spelling)))) (p .0, (p .1 .0, tt)) t
-      by-cases (refused k q) = nothing
+  of-parts (Allometry n none) p t =
+      gives-bind (entry-first (covariates c) (n .spelling)) (λ i h. parts-well (Allometry (plainName (n .spelling)) none) (p .0, (refl, tt)) t)
+  of-parts (Allometry n (some r)) p t =
+      gives-bind (entry-first (covariates c) (n .spelling))
+      (λ i h. parts-well (Allometry (plainName (n .spelling)) (some (plainName (r .spelling)))) (p .0, (p .1 .0, tt)) t)
   of-parts (DirectEffect ms) p t = parts-well (DirectEffect (whole PdMode ms)) (whole-well PdMode ms (p .0), tt) refl
   of-parts (EffectComp ms) p t = parts-well (EffectComp (whole PdMode ms)) (whole-well PdMode ms (p .0), tt) refl
   of-parts (IndirectEffect ms ps) p t =
@@ -181,13 +175,13 @@ module _ (limit : ℕ) (c : Context) (good : Readable c) (look : Meaning) where
       refl
   of-parts (Metabolite ms) p t = parts-well (Metabolite (whole MetaboliteMode ms)) (whole-well MetaboliteMode ms (p .0), tt) refl
   of-parts (Iiv m ps es) p t =
-      gives-bind (held-gives (c .parameters) (namesOf look (known (look (bytes "PK"))) ps))
+      gives-bind (parameters-give c look (bytes "PK") ps)
       (λ is h. given (list-well isNil (λ o. Iiv m o (whole VariabilityEffect es)) h (λ n. n) (λ o w. simp (w, whole-well VariabilityEffect es (p .1 .0)))))
   of-parts (Iov m ps es) p t =
-      gives-bind (held-gives (c .parameters) (namesOf look (known (look (bytes "IIV"))) ps))
+      gives-bind (parameters-give c look (bytes "IIV") ps)
       (λ is h. given (list-well isNil (λ o. Iov m o (whole VariabilityEffect es)) h (λ n. n) (λ o w. simp (w, whole-well VariabilityEffect es (p .1 .0)))))
   of-parts (Covariance m ls ps) p t =
-      gives-bind (held-gives (c .parameters) (namesOf look (known (look (bytes "IIV"))) ps))
+      gives-bind (parameters-give c look (bytes "IIV") ps)
       (λ is h.
       given
       (list-well (λ js. ltb (length js) 2) (λ o. Covariance m (whole VariabilityLevel ls) o) h (not-few is)
