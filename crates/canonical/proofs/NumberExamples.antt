@@ -1,4 +1,4 @@
--- The numbers of statements of every feature, evaluated.
+-- The numbers of statements of every feature, and of all statements of a text, evaluated.
 -- Assumes nothing.
 use Prim.Native.Nat.{ℕ}
 use Prim.Native.String.{String}
@@ -19,7 +19,7 @@ use Rattle.reading.specs.Feature.{keywordOf, transitsOf, explicit, operatorOf, 
 use Rattle.reading.specs.Syntax.{opened, featureMade, letMade, closed, turn}
 use Rattle.reading.specs.Read.{readFrom, readText}
 use Rattle.reading.specs.Parts.{featureParts, partsOf}
-use Rattle.canonical.specs.Numbers.{numbersOf}
+use Rattle.canonical.specs.Numbers.{numbersOf, allNumbersOf, allNumbering}
 
 pub record Example : Type 0 where
   pub text : String
@@ -63,3 +63,15 @@ unfolding readText readFrom turn opened featureMade letMade closed
     scanned tokensAfter follow frontOf dots numberRest fraction classOf
     numbersOf partsOf featureParts digitsIn
 checked = refl
+
+-- texts of two statements, of none, and one that is refused
+pub checked-all :
+    map (λ s. allNumbering 64 (bytes s)) ("LAGTIME(ON);IIV(CL,*)" ∷ "; ;" ∷ "IIV(CL,*);IIV(CL)" ∷ [])
+    ≡ accepted (5 ∷ 4 ∷ 0 ∷ 1 ∷ 1 ∷ 1 ∷ 7 ∷ 11 ∷ 0 ∷ 7 ∷ 1 ∷ 16 ∷ 2 ∷ 0 ∷ []) ∷ accepted [] ∷ refused 8 10 ∷ []
+unfolding readText readFrom turn opened featureMade letMade closed
+    buildFeature featureOf keywordOf transitsOf explicit operatorOf nameOf
+    placeOf countAt rangeOf itemsOf operandOf modeList firsts modesOf countList countsOf
+    countOf sameWord find labelsOf keywords
+    scanned tokensAfter follow frontOf dots numberRest fraction classOf
+    allNumbering allNumbersOf numbersOf partsOf featureParts digitsIn
+checked-all = refl

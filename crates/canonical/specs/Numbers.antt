@@ -54,6 +54,8 @@ use Rattle.reading.specs.Parts.{
   Parts,
   partsOf,
 }
+use Rattle.reading.specs.Answer.{Answer, accepted, refused}
+use Rattle.reading.specs.Read.{readText}
 
 -- Arguments.
 
@@ -119,3 +121,19 @@ takenNumbers p = headNumbers (p .keyword) (p .optional) ++ partsNumbers (p .argu
 
 unfoldable pub numbersOf : Statement → List ℕ
 numbersOf s = takenNumbers (partsOf s)
+
+-- All statements of a text: those of each, one statement after the other, behind how many they are.
+abbrev pub countedNumbers : Statement → List ℕ
+countedNumbers s = length (numbersOf s) ∷ numbersOf s
+
+unfoldable pub allNumbersOf : List Statement → List ℕ
+allNumbersOf [] = []
+allNumbersOf (s ∷ ss) = countedNumbers s ++ allNumbersOf ss
+
+abbrev pub allNumbered : Answer (List Statement) → Answer (List ℕ)
+allNumbered (accepted ss) = accepted (allNumbersOf ss)
+allNumbered (refused n p) = refused n p
+
+-- the numbers of all statements of a text, under a limit for counts
+unfoldable pub allNumbering : ℕ → List ℕ → Answer (List ℕ)
+allNumbering limit text = allNumbered (readText limit text)

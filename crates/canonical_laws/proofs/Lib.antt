@@ -16,3 +16,4 @@ pub mod Forgetting
 pub mod Rereading
 pub mod Offsets
 pub mod Numbers
+pub mod Rooms

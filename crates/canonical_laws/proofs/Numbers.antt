@@ -136,11 +136,11 @@ few-counts limit (count v) e = omega arith
 few-counts limit (range a b) e = omega arith
 few-counts limit (counts vs) e = omega (arith, few (withinLimit limit) vs e)
 
-pairs-many : (ns : List Name) → length (pairsNumbers ns) ≡ length ns + length ns
+pub pairs-many : (ns : List Name) → length (pairsNumbers ns) ≡ length ns + length ns
 pairs-many [] = refl
 pairs-many (n ∷ ns) = omega (arith, pairs-many ns)
 
-values-many : (is : List Item) → length (itemsNumbers is) ≡ length is + length is + length is
+pub values-many : (is : List Item) → length (itemsNumbers is) ≡ length is + length is + length is
 values-many [] = refl
 values-many (i ∷ is) = omega (arith, values-many is)
 
@@ -198,7 +198,7 @@ unfolding partsOf
 statement-most (Let n is) = (omega arith, omega arith)
 statement-most (feature f) = let h = feature-most f in (omega arith, h .1)
 
-head-many : (k : ℕ) (m : Bool) → length (headNumbers k m) ≡ 2
+pub head-many : (k : ℕ) (m : Bool) → length (headNumbers k m) ≡ 2
 head-many k true = refl
 head-many k false = refl
 

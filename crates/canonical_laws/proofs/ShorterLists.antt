@@ -107,6 +107,18 @@ call-shapes-width k m args h =
       argument-shapes-width args,
     )
 
+-- at least so many, with no argument too
+pub call-shapes-least :
+    (k : List ℕ) (m : Bool) (args : List (List Shape)) → callWidth (length k) m (argumentWidths args) ≤ widths (callShapes k m args)
+call-shapes-least k m args =
+    omega (
+      arith,
+      widths-append (questionMark m ++ sign "(" ∷ argumentShapes args) (sign ")" ∷ []),
+      widths-append (questionMark m) (sign "(" ∷ argumentShapes args),
+      question-mark-width m,
+      argument-shapes-width args,
+    )
+
 -- Texts.
 
 pub text-shapes-width : (ss : List Statement) → widths (textShapes ss) ≡ statementWidths ss - 1
