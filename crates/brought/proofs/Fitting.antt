@@ -69,15 +69,15 @@ module _ (s : List ℕ) where
       → CovariateFits s ps vs es
   unfolding statementIn featureIn apart featureApart
   covariate-fits m ps vs es op f =
-      let q = statement-fits (f .limit) s (statementForm.Feature (form.Covariate m ps vs es op)) (f .well) in
+      let q = statement-fits (f .limit) s (statementForm.Feature (form.Covariate m ps vs es op)) (f .read) in
       record {
         parameters = q .first;
         covariates = q .second;
-        small = small-forms (f .limit) m (operandIn s ps) (operandIn s vs) (modesIn es) (opAs op) (f .well);
+        small = small-forms (f .limit) m (operandIn s ps) (operandIn s vs) (modesIn es) (opAs op) (and-left _ _ (f .read));
       }
 
   pub feature-fits : (f : forms.Feature) → Fit s (statementForm.Feature f) → PartsFit s (apart (statementForm.Feature f))
-  feature-fits f x = statement-fits (x .limit) s (statementForm.Feature f) (x .well)
+  feature-fits f x = statement-fits (x .limit) s (statementForm.Feature f) (x .read)
 
   pub feature-short : (f : forms.Feature) → Fit s (statementForm.Feature f) → Short s f
   unfolding statementIn

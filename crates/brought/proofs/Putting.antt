@@ -86,7 +86,7 @@ module _ {a : Answer Brought} {before after : List ℕ} where
 -- a feature of a text that was read
 module _ (s : List ℕ) (f : forms.Feature) (t : Fit s (statement.Feature f)) where
   pub fit-parts : PartsFit s (apart (statement.Feature f))
-  fit-parts = statement-fits (t .limit) s (statement.Feature f) (t .well)
+  fit-parts = statement-fits (t .limit) s (statement.Feature f) (t .read)
 
   pub fit-short : Short s f
   unfolding statementIn

@@ -32,7 +32,7 @@ separator-width (mark m) e = mark-width m
 laid-width : {text : List ℕ} {o : ℕ} {ts : Tokens} → o ≤ length text → Laid text o ts → o + tokenWidths ts ≤ length text
 laid-width h finished = omega arith
 laid-width h (strayed l) = omega arith
-laid-width h (laid l w s r) = omega (arith, l, laid-width w r)
+laid-width h (laid l n w s r) = omega (arith, l, laid-width w r)
 
 -- Statements that tokens are read as are printed with no more bytes than what was read before the tokens and the tokens have.
 reads-shorter :

@@ -206,4 +206,4 @@ let-listed s name values p = p .second
 
 pub values-listed : (s : List ℕ) (st : statements.Statement) (name : Name) (values : Items) → Fit s st → st ≡ form.Let name values → Listed s values
 values-listed s st name values f e =
-    let-listed s name values (subst (λ (x : statements.Statement). PartsFit s (apart x)) e (statement-fits (f .limit) s st (f .well)))
+    let-listed s name values (subst (λ (x : statements.Statement). PartsFit s (apart x)) e (statement-fits (f .limit) s st (f .read)))

@@ -16,6 +16,7 @@ use Rattle.forms.specs.declared.Name.{Name}
 use Rattle.forms.specs.declared.Modes.the-variants as modesForm
 use Rattle.forms.specs.declared.CovariateOp.{CovariateOp}
 use Rattle.forms.specs.Items.{nameIn}
+use Rattle.forms.specs.Fits.{InText}
 use Rattle.forms.specs.Forms.{modesIn, opAs}
 use Rattle.parts.specs.declared.Part as form
 use Rattle.parts.specs.declared.Part.the-variants as part
@@ -41,8 +42,9 @@ groupParts n v packed m op =
       fourth = part.Op op;
     }
 
-pub group-fits : (b : List ℕ) (n v : Name) (packed : ℕ) (m : Bool) (op : CovariateOp) → PartsFit b (groupParts n v packed m op)
-group-fits b n v packed m op = record { first = tt; second = tt; third = tt; fourth = tt }
+pub group-fits :
+    (b : List ℕ) (n v : Name) (packed : ℕ) (m : Bool) (op : CovariateOp) → InText b n → InText b v → PartsFit b (groupParts n v packed m op)
+group-fits b n v packed m op h k = record { first = h; second = k; third = tt; fourth = tt }
 
 module _
     (c : Context) (p q o k : ℕ) (b : List ℕ) (n v : Name) (packed : ℕ) (m : Bool) (op : CovariateOp)

@@ -1,5 +1,4 @@
 pub mod Bytes
-pub mod Cut
 pub mod Entries
 pub mod Labels
 pub mod Parts

@@ -1,7 +1,7 @@
 // The parts of a statement, printed: their canonical bytes written into the caller's buffer, and the index behind them.
 ghost use mathlib.Core.Path.{_≡_};
 ghost use mathlib.Core.List.{map};
-ghost use Prim.Native.Nat.{suc, min};
+ghost use Prim.Native.Nat.{suc};
 ghost use lib.ListN.{length};
 ghost use Rattle.packs.specs.Packs.{places};
 ghost use Rattle.tokens.specs.Class.{classTable};
@@ -31,29 +31,19 @@ pub enum Entry {
     Count,
 }
 
-// The lesser of two numbers.
-fn least(a: usize, b: usize) -> usize
-    ensures { λ r. ⌜ r ≡ min a b ⌝ }
-{
-    if b < a {
-        return b;
-    }
-    a
-}
-
-// A name's bytes, as a part of the text: those of them that the text has.
+// A name's bytes, as a part of the text.
 fn spelling(text: &[u8], name: Name) -> &[u8]
+    requires { ⌜ InText (now text) name ⌝ }
     ensures { λ r. ⌜ now r ≡ nameIn (now (text .entry)) name .spelling ⌝ }
 {
-    let start = least(name.offset, text.len());
-    let count = least(name.length, text.len() - start);
-    let end = start + count;
+    let start = name.offset;
+    let end = start + name.length;
     &text[start..end]
 }
 
 // A name as it is written.
 pub fn put_name(text: &[u8], name: Name, out: &mut [u8], at: usize) -> usize
-    requires { ⌜ Room at (nameIn (now text) name .spelling) ⌝ }
+    requires { ⌜ InText (now text) name × Room at (nameIn (now text) name .spelling) ⌝ }
     ensures { λ r. ⌜ Written (now (out .entry)) at (nameIn (now (text .entry)) name .spelling) (now (out .exit)) r ⌝ }
 {
     writing::put_all(out, at, spelling(text, name))
@@ -203,7 +193,7 @@ pub fn put_counts(
 
 // A symbol.
 fn put_symbol(text: &[u8], name: Name, out: &mut [u8], at: usize) -> usize
-    requires { ⌜ Room at (spellAll (operandShapes (symbol (nameIn (now text) name)))) ⌝ }
+    requires { ⌜ InText (now text) name × Room at (spellAll (operandShapes (symbol (nameIn (now text) name)))) ⌝ }
     ensures { λ r. ⌜ Written (now (out .entry)) at
         (spellAll (operandShapes (symbol (nameIn (now (text .entry)) name))))
         (now (out .exit)) r ⌝ }

@@ -1,22 +1,29 @@
--- The lists of a statement that is well formed can be read again: a list that cannot has no entries, and a well formed one is not empty.
+-- The lists of a statement that was read can be read again: a list that cannot has no entries, and a well formed one is not empty. Its names
+-- lie in the text: they end before it, so none was cut at its end.
 -- Assumes nothing.
 use Prim.Native.Nat.{ℕ}
+use native.Mathlib.Omega.{arith}
 use mathlib.Core.Path.{_≡_, refl, _∙_, ap, sym}
 use mathlib.Core.Bool.{Bool, true, false, _&&_, false≢true}
 use mathlib.Core.List.{List, [], _∷_, _++_, map}
+use borrow.Author.Tests.{ltb-true}
+use lib.ListN.{length, drop, length-take, length-drop}
 use Rattle.token_laws.specs.Shaped.{all}
 use Rattle.token_laws.proofs.Tests.{and-left, and-right}
 use Rattle.reading.specs.Statement.{Item}
 use Rattle.reading.specs.Parts as reading
 use Rattle.reading_laws.specs.WellFormed.{oneTo64, withinLimit, wellNamed, wellItem, wellPart, wellParts, wellFormed}
+use Rattle.reading_laws.specs.Spelled.{endOf, endsBefore, placedPart, asRead}
+use Rattle.reading_laws.proofs.Tests.{all-left, all-right}
 use Rattle.reading_laws.proofs.Parts.{parts-well}
 use Rattle.forms.specs.declared.Counts.the-variants as counts
 use Rattle.forms.specs.declared.Operand.the-variants as operand
 use Rattle.forms.specs.declared.Items.{Items}
+use Rattle.forms.specs.declared.Name as form
 use Rattle.forms.specs.declared.Statement.{Statement}
-use Rattle.forms.specs.Items.{itemsIn}
+use Rattle.forms.specs.Items.{nameIn, itemsIn}
 use Rattle.forms.specs.Forms.{valuesIn, countsIn, operandIn, statementIn}
-use Rattle.forms.specs.Fits.{Listed}
+use Rattle.forms.specs.Fits.{InText, Listed}
 use Rattle.forms.proofs.Lists.{has-entries}
 use Rattle.parts.specs.declared.Part.{Part}
 use Rattle.parts.specs.declared.Part.the-variants.{Absent, Modes, Counts, N, Operand, Name, Values, Op, Omitted}
@@ -26,51 +33,53 @@ use Rattle.parts.specs.Meaning.{partIn, partsIn, PartFits, PartsFit}
 use Rattle.parts.proofs.Meaning.{taken}
 
 module _ (limit : ℕ) where
-  all-left : (ps qs : List reading.Part) → all (wellPart limit) (ps ++ qs) ≡ true → all (wellPart limit) ps ≡ true
-  all-left [] qs e = refl
-  all-left (p ∷ ps) qs e =
-      simp (
-        and-left (wellPart limit p) (all (wellPart limit) (ps ++ qs)) e,
-        all-left ps qs (and-right (wellPart limit p) (all (wellPart limit) (ps ++ qs)) e),
-      )
-
-  all-right : (ps qs : List reading.Part) → all (wellPart limit) (ps ++ qs) ≡ true → all (wellPart limit) qs ≡ true
-  all-right [] qs e = e
-  all-right (p ∷ ps) qs e = all-right ps qs (and-right (wellPart limit p) (all (wellPart limit) (ps ++ qs)) e)
-
   module _ (s : List ℕ) where
     -- a list whose entries pass a test that no empty list passes
     entries-listed : (is : Items) (p : List Item → Bool) → p [] ≡ false → p (itemsIn s is) ≡ true → Listed s is
     entries-listed is p f e = has-entries s is (λ q. false≢true (sym f ∙ sym (ap p q) ∙ e))
 
-    part-fits : (p : Part) → all (wellPart limit) (partIn s p) ≡ true → PartFits s p
-    unfolding countsIn operandIn
-    part-fits Absent e = tt
-    part-fits (Modes f m) e = tt
-    part-fits (Counts (counts.Single v)) e = tt
-    part-fits (Counts (counts.Range a b)) e = tt
-    part-fits (Counts (counts.List is)) e = entries-listed is (λ l. oneTo64 (withinLimit limit) (valuesIn l) && true) refl e
-    part-fits N e = tt
-    part-fits (Operand operand.Wildcard) e = tt
-    part-fits (Operand (operand.Symbol n)) e = tt
-    part-fits (Operand (operand.Names is)) e = entries-listed is (λ l. oneTo64 wellNamed (map (λ i. i .name) l) && true) refl e
-    part-fits (Name n) e = tt
-    part-fits (Values is) e = entries-listed is (λ l. oneTo64 wellItem l && true) refl e
-    part-fits (Op op) e = tt
-    part-fits Omitted e = tt
+    -- a name that stands for bytes before the text's end
+    name-fits : (n : form.Name) → all (all (endsBefore (length s))) ((nameIn s n ∷ []) ∷ []) ≡ true → InText s n
+    name-fits n e =
+        let b = ltb-true (endOf (nameIn s n)) (length s) (and-left _ _ (and-left _ _ e)) in
+        omega (arith, b, length-take (n .length) (drop (n .offset) s), length-drop (n .offset) s)
 
-    parts-fit : (r : Parts) → wellParts limit (partsIn s r) ≡ true → PartsFit s r
+    part-fits :
+        (p : Part) → all (wellPart limit) (partIn s p) ≡ true → all (placedPart (length s)) (partIn s p) ≡ true → PartFits s p
+    unfolding countsIn operandIn
+    part-fits Absent e h = tt
+    part-fits (Modes f m) e h = tt
+    part-fits (Counts (counts.Single v)) e h = tt
+    part-fits (Counts (counts.Range a b)) e h = tt
+    part-fits (Counts (counts.List is)) e h = entries-listed is (λ l. oneTo64 (withinLimit limit) (valuesIn l) && true) refl e
+    part-fits N e h = tt
+    part-fits (Operand operand.Wildcard) e h = tt
+    part-fits (Operand (operand.Symbol n)) e h = name-fits n h
+    part-fits (Operand (operand.Names is)) e h = entries-listed is (λ l. oneTo64 wellNamed (map (λ i. i .name) l) && true) refl e
+    part-fits (Name n) e h = name-fits n h
+    part-fits (Values is) e h = entries-listed is (λ l. oneTo64 wellItem l && true) refl e
+    part-fits (Op op) e h = tt
+    part-fits Omitted e h = tt
+
+    parts-fit : (r : Parts) → wellParts limit (partsIn s r) ≡ true → all (placedPart (length s)) (partsIn s r .arguments) ≡ true → PartsFit s r
     unfolding partsIn
-    parts-fit r e =
-        let b = all-right (partIn s (r .first)) _ e in
-        let c = all-right (partIn s (r .second)) _ b in
+    parts-fit r e h =
+        let w = wellPart limit in
+        let q = placedPart (length s) in
+        let b = all-right w (partIn s (r .first)) _ e in
+        let c = all-right w (partIn s (r .second)) _ b in
+        let k = all-right q (partIn s (r .first)) _ h in
+        let l = all-right q (partIn s (r .second)) _ k in
         record {
-          first = part-fits (r .first) (all-left (partIn s (r .first)) _ e);
-          second = part-fits (r .second) (all-left (partIn s (r .second)) _ b);
-          third = part-fits (r .third) (all-left (partIn s (r .third)) _ c);
-          fourth = part-fits (r .fourth) (all-right (partIn s (r .third)) _ c);
+          first = part-fits (r .first) (all-left w (partIn s (r .first)) _ e) (all-left q (partIn s (r .first)) _ h);
+          second = part-fits (r .second) (all-left w (partIn s (r .second)) _ b) (all-left q (partIn s (r .second)) _ k);
+          third = part-fits (r .third) (all-left w (partIn s (r .third)) _ c) (all-left q (partIn s (r .third)) _ l);
+          fourth = part-fits (r .fourth) (all-right w (partIn s (r .third)) _ c) (all-right q (partIn s (r .third)) _ l);
         }
 
-    -- The lists of a well formed statement can be read again.
-    pub statement-fits : (st : Statement) → wellFormed limit (statementIn s st) ≡ true → PartsFit s (apart st)
-    statement-fits st e = parts-fit (apart st) (rw (taken s st .mean) (parts-well limit (statementIn s st) e))
+    -- The names of a statement that was read lie in the text, and its lists can be read again.
+    pub statement-fits : (st : Statement) → asRead limit (length s) (statementIn s st) ≡ true → PartsFit s (apart st)
+    statement-fits st e =
+        parts-fit (apart st)
+        (rw (taken s st .mean) (parts-well limit (statementIn s st) (and-left (wellFormed limit (statementIn s st)) _ e)))
+        (rw (taken s st .mean) (and-right (wellFormed limit (statementIn s st)) _ e))

@@ -1,4 +1,4 @@
--- What the parts of a form mean in a text, and that their lists can be read again.
+-- What the parts of a form mean in a text, and that their names lie in the text and their lists can be read again.
 use Prim.Native.Nat.{ℕ}
 use mathlib.Core.List.{List, [], _∷_, _++_}
 use Rattle.reading.specs.Parts as reading
@@ -9,7 +9,7 @@ use Rattle.forms.specs.declared.Operand as operandForm
 use Rattle.forms.specs.declared.Operand.the-variants as operand
 use Rattle.forms.specs.Items.{nameIn, itemsIn}
 use Rattle.forms.specs.Forms.{modesIn, countsIn, operandIn, opAs}
-use Rattle.forms.specs.Fits.{Listed}
+use Rattle.forms.specs.Fits.{InText, Listed}
 use Rattle.parts.specs.declared.Part.{Part}
 use Rattle.parts.specs.declared.Part.the-variants.{Absent, Modes, Counts, N, Operand, Name, Values, Op, Omitted}
 use Rattle.parts.specs.declared.Parts.{Parts}
@@ -32,7 +32,7 @@ partsIn s r = record {
   arguments = partIn s (r .first) ++ (partIn s (r .second) ++ (partIn s (r .third) ++ partIn s (r .fourth)));
 }
 
--- its list, if it has one, can be read again
+-- its name, if it has one alone, lies in the text; its list can be read again
 abbrev pub CountsFit : List ℕ → countsForm.Counts → Type 0
 CountsFit s (counts.Single v) = Unit {0}
 CountsFit s (counts.Range a b) = Unit {0}
@@ -40,7 +40,7 @@ CountsFit s (counts.List is) = Listed s is
 
 abbrev pub OperandFits : List ℕ → operandForm.Operand → Type 0
 OperandFits s operand.Wildcard = Unit {0}
-OperandFits s (operand.Symbol n) = Unit {0}
+OperandFits s (operand.Symbol n) = InText s n
 OperandFits s (operand.Names is) = Listed s is
 
 abbrev pub PartFits : List ℕ → Part → Type 0
@@ -49,7 +49,7 @@ PartFits s (Modes f m) = Unit {0}
 PartFits s (Counts c) = CountsFit s c
 PartFits s N = Unit {0}
 PartFits s (Operand p) = OperandFits s p
-PartFits s (Name n) = Unit {0}
+PartFits s (Name n) = InText s n
 PartFits s (Values is) = Listed s is
 PartFits s (Op op) = Unit {0}
 PartFits s Omitted = Unit {0}

@@ -1,6 +1,6 @@
 -- The tokens of a text stand in it, one behind the other.
 -- Assumes nothing.
-use Prim.Native.Nat.{ℕ, zero, suc, _+_, _≤_}
+use Prim.Native.Nat.{ℕ, zero, suc, _+_, _<_, _≤_}
 use native.Mathlib.Numerals.{add-one}
 use native.Mathlib.Nat.{le-refl}
 use native.Mathlib.Omega.{arith}
@@ -56,7 +56,7 @@ front-taking letter b bs e = (ap suc (length-take-le (span inWord bs) bs (span-m
 laid-sooner : {text : List ℕ} {o p : ℕ} {ts : Tokens} → p ≤ o → Laid text o ts → Laid text p ts
 laid-sooner h finished = finished
 laid-sooner h (strayed l) = strayed l
-laid-sooner {p} h (laid {p = q} l w s r) = let k : p ≤ q = omega arith in laid k w s r
+laid-sooner {p} h (laid {p = q} l n w s r) = let k : p ≤ q = omega arith in laid k n w s r
 
 module _ (text : List ℕ) (o : ℕ) {b : ℕ} {bs : List ℕ} (e : drop o text ≡ b ∷ bs) where
   -- the bytes from the next offset on
@@ -74,8 +74,9 @@ module _ (text : List ℕ) (o : ℕ) {b : ℕ} {bs : List ℕ} (e : drop o text 
   follow-laid (skip k) g w h = laid-sooner (omega arith) (h k)
   follow-laid (taken x k) g w h =
       let rest : Laid text (o + width x) (g k) = laid-sooner (omega (arith, w .0)) (h k) in
+      let some : 0 < width x = omega (arith, w .0) in
       let within : o + width x ≤ length text = omega (arith, w .0, w .1, ap length e, length-drop o text) in
-      laid (le-refl o) within (spelled-here x k (w .0) (w .2)) rest
+      laid (le-refl o) some within (spelled-here x k (w .0) (w .2)) rest
   follow-laid wrong g w h = strayed {p = o} (omega (arith, ap length e, length-drop o text))
 
 after-laid : (text : List ℕ) (k o : ℕ) (l : List ℕ) → drop o text ≡ l → Laid text (o + k) (tokensAfter k o l)

@@ -67,16 +67,16 @@ args-more (b ∷ bs) a = simp (args-more bs a, append-assoc)
 
 -- Steps.
 
--- so much of a statement, or the whole of it, has only such names
-abbrev pub Named : List Name → Step → Type 0
-Named ns x = Leads (λ s. Among (stateNames s) ns) (λ s. Among (statementNames s) ns) x
+-- so much of a statement has only such names, and the whole of it only those
+abbrev pub Named : List Name → List Name → Step → Type 0
+Named ns ms x = Leads (λ s. Among (stateNames s) ns) (λ s. Among (statementNames s) ms) x
 
-opened-as-named : {o : ℕ} {x : Shape} {y : Step} → Opened o x y → Named [] y
+opened-as-named : {o : ℕ} {x : Shape} {y : Step} → Opened o x y → Named [] [] y
 opened-as-named (case.noStatement f) = halts f
 opened-as-named case.aKeyword = goes (among-all [])
 opened-as-named (case.aLetKeyword e) = goes (among-all [])
 
-turned-named : {limit : ℕ} {s : State} {o : ℕ} {x : Shape} {y : Step} → Turned limit s o x y → Named (namesThen (stateNames s) o x) y
+turned-named : {limit : ℕ} {s : State} {o : ℕ} {x : Shape} {y : Step} → Turned limit s o x y → Named (namesThen (stateNames s) o x) (stateNames s) y
 unfolding partsOf
 turned-named (case.refusing f) = halts f
 turned-named case.questioned = goes (among-all [])
@@ -110,9 +110,9 @@ turned-named {limit} (case.aFeature {k} {q} {args} {a} e) =
     makes (among-trans (value-given (build-names limit k q (args ++ a ∷ [])) e) (among-same (args-more args a)))
 turned-named (case.aLet {items} t) = makes (kept (among-trans (among-same (append-nil (itemNames items))) (part-names t)))
 
--- A statement's first token, which is no name of it, and each token after it.
-pub opened-named : (o : ℕ) (x : Shape) → Named [] (opened o x)
+-- A statement's first token, which is no name of it, and each token after it: the last is none of its names either.
+pub opened-named : (o : ℕ) (x : Shape) → Named [] [] (opened o x)
 opened-named o x = opened-as-named (opening o x)
 
-pub turn-named : (limit : ℕ) (s : State) (o : ℕ) (x : Shape) → Named (namesThen (stateNames s) o x) (turn limit s o x)
+pub turn-named : (limit : ℕ) (s : State) (o : ℕ) (x : Shape) → Named (namesThen (stateNames s) o x) (stateNames s) (turn limit s o x)
 turn-named limit s o x = turned-named (turning limit s o x)

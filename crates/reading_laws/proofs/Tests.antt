@@ -15,6 +15,21 @@ pub all-append : {A : Type 0} (p : A → Bool) (xs ys : List A) → all p xs ≡
 all-append p [] ys e h = h
 all-append p (x ∷ xs) ys e h = both (and-left (p x) (all p xs) e) (all-append p xs ys (and-right (p x) (all p xs) e) h)
 
+pub all-left : {A : Type 0} (p : A → Bool) (xs ys : List A) → all p (xs ++ ys) ≡ true → all p xs ≡ true
+all-left p [] ys e = refl
+all-left p (x ∷ xs) ys e = both (and-left (p x) (all p (xs ++ ys)) e) (all-left p xs ys (and-right (p x) (all p (xs ++ ys)) e))
+
+pub all-right : {A : Type 0} (p : A → Bool) (xs ys : List A) → all p (xs ++ ys) ≡ true → all p ys ≡ true
+all-right p [] ys e = e
+all-right p (x ∷ xs) ys e = all-right p xs ys (and-right (p x) (all p (xs ++ ys)) e)
+
+-- two tests that all the elements of a list pass, as one
+pub all-both : {A : Type 0} (p q : A → Bool) (xs : List A) → all p xs ≡ true → all q xs ≡ true → all (λ x. p x && q x) xs ≡ true
+all-both p q [] e h = refl
+all-both p q (x ∷ xs) e h =
+    both (both (and-left (p x) (all p xs) e) (and-left (q x) (all q xs) h))
+    (all-both p q xs (and-right (p x) (all p xs) e) (and-right (q x) (all q xs) h))
+
 -- what passes one test passes another
 pub all-weaker : {A : Type 0} {p q : A → Bool} → ((x : A) → p x ≡ true → q x ≡ true) → (xs : List A) → all p xs ≡ true → all q xs ≡ true
 all-weaker h [] e = refl

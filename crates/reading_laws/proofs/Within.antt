@@ -40,7 +40,7 @@ cut-most size p = go (leb p size) refl
 laid-cut : {text : List ℕ} {o : ℕ} {ts : Tokens} → Laid text o ts → moveTokens (cut (length text)) ts ≡ ts
 laid-cut finished = refl
 laid-cut {text} (strayed {p} h) = ap bad (cut-within (length text) p h)
-laid-cut {text} (laid {p} l h s r) = rw (cut-within (length text) p (omega (arith, h)), laid-cut r)
+laid-cut {text} (laid {p} l n h s r) = rw (cut-within (length text) p (omega (arith, h)), laid-cut r)
 
 -- what a scan and what reading answer is not cut either
 cutScan : ℕ → Scanned → Scanned

@@ -1,8 +1,7 @@
--- Lists of which all elements are among those of another, in the same order. And the names of what is read of a statement before its end,
--- and of tokens.
+-- Lists of which all elements are among those of another, in the same order. And the names of what is read of a statement before its end.
 use Prim.Native.Nat.{ℕ}
 use mathlib.Core.List.{List, [], _∷_, _++_}
-use Rattle.tokens.specs.Token.{Shape, word, number, mark, Tokens, finish, bad, _▸_}
+use Rattle.tokens.specs.Token.{Shape, word, number, mark}
 use Rattle.reading.specs.Statement.{Name}
 use Rattle.reading.specs.Argument.{Arg, star, plus, symbol, single, range, array}
 use Rattle.reading.specs.Syntax.{
@@ -70,14 +69,8 @@ whereNames between = []
 whereNames ended = []
 whereNames (inside s) = stateNames s
 
--- Tokens: of those read so far, and of those to come.
-
+-- names that were read, and a token's
 abbrev pub namesThen : List Name → ℕ → Shape → List Name
 namesThen ns o (word w) = ns ++ name o w ∷ []
 namesThen ns o (number w) = ns ++ name o w ∷ []
 namesThen ns o (mark m) = ns
-
-abbrev pub tokenNames : Tokens → List Name
-tokenNames finish = []
-tokenNames (bad o) = []
-tokenNames (t ▸ ts) = namesThen [] (t .place) (t .shape) ++ tokenNames ts

@@ -1,6 +1,6 @@
--- How the tokens of a text stand in it: one behind the other, each within the text, and each word and number spelled as the text's bytes at
--- its place. A byte that starts no token is within it too.
-use Prim.Native.Nat.{ℕ, _+_, _≤_}
+-- How the tokens of a text stand in it: one behind the other, each within the text and not empty, and each word and number spelled as the
+-- text's bytes at its place. A byte that starts no token is within it too.
+use Prim.Native.Nat.{ℕ, _+_, _<_, _≤_}
 use mathlib.Core.Path.{_≡_}
 use mathlib.Core.List.{List}
 use lib.ListN.{length, take, drop}
@@ -18,6 +18,7 @@ pub data Laid (text : List ℕ) : ℕ → Tokens → Type 0 where
   laid :
       {o p : ℕ} {x : Shape} {ts : Tokens}
       → o ≤ p
+      → 0 < width x
       → p + width x ≤ length text
       → SpelledAt text p x
       → Laid text (p + width x) ts

@@ -14,9 +14,9 @@ use Rattle.reading.specs.Statement.{Statement}
 use Rattle.reading.specs.Answer.{Answer, accepted, refused}
 use Rattle.reading.specs.Read.{between, prepend, readText}
 use Rattle.reading_laws.specs.Reads.{prependAll}
-use Rattle.reading_laws.specs.WellFormed.{wellFormed}
+use Rattle.reading_laws.specs.Spelled.{asRead}
 use Rattle.reading_laws.proofs.Joining.{accepted-text}
-use Rattle.reading_laws.proofs.WellRead.{text-well-formed}
+use Rattle.reading_laws.proofs.Spelled.{text-as-read}
 use Rattle.canonical.specs.Canonical.{canonical}
 use Rattle.canonical.specs.Print.{printText}
 use Rattle.canonical_laws.proofs.Shorter.{not-longer}
@@ -42,7 +42,7 @@ use Rattle.render.proofs.Answering.{refused-answers, room-answers}
 -- Of the statements that are kept so many are printed, and the others are left.
 pub record Putting (limit : ℕ) (s before now : List ℕ) (forms : List form.Statement) (n i at : ℕ) : Type 0 where
   pub read : readText limit s ≡ accepted (firstOnes (statementIn s) n forms)
-  pub well : all (wellFormed limit) (map (statementIn s) (slice i n forms)) ≡ true
+  pub fit : all (asRead limit (length s)) (map (statementIn s) (slice i n forms)) ≡ true
   pub gone : Going before 0 (canonical (firstOnes (statementIn s) n forms)) now at (restOf i (map (statementIn s) (slice i n forms)))
   pub held : n ≤ length forms
   pub most : i ≤ n
@@ -55,7 +55,7 @@ pub none-put :
 none-put limit s before forms n e h =
     record {
       read = e;
-      well = text-well-formed limit s (firstOnes (statementIn s) n forms) e;
+      fit = text-as-read limit s (firstOnes (statementIn s) n forms) e;
       gone = told (canonical-pieces (firstOnes (statementIn s) n forms)) (going before 0 (canonical (firstOnes (statementIn s) n forms)));
       held = h;
       most = omega arith;
@@ -69,8 +69,8 @@ module _ {limit : ℕ} {s before now : List ℕ} {forms : List form.Statement} {
     left : map (statementIn s) (slice i n forms) ≡ statementIn s this ∷ map (statementIn s) (slice (suc i) n forms)
     left = ap (map (statementIn s)) (slice-cons i n forms d h (g .held))
 
-    well-left : all (wellFormed limit) (statementIn s this ∷ map (statementIn s) (slice (suc i) n forms)) ≡ true
-    well-left = sym (ap (all (wellFormed limit)) left) ∙ g .well
+    fit-left : all (asRead limit (length s)) (statementIn s this ∷ map (statementIn s) (slice (suc i) n forms)) ≡ true
+    fit-left = sym (ap (all (asRead limit (length s))) left) ∙ g .fit
 
     gone-left :
         Going before 0 (canonical (firstOnes (statementIn s) n forms)) now at
@@ -78,7 +78,7 @@ module _ {limit : ℕ} {s before now : List ℕ} {forms : List form.Statement} {
     gone-left = told (ap (restOf i) left) (g .gone)
 
     pub this-fits : PartsFit s (apart (getD forms i d))
-    this-fits = statement-fits limit s this (and-left (wellFormed limit (statementIn s this)) _ well-left)
+    this-fits = statement-fits limit s this (and-left (asRead limit (length s) (statementIn s this)) _ fit-left)
 
     pub this-room : Room at (pieceOf i (statementIn s (getD forms i d)))
     this-room = room-first (pieceOf i (statementIn s this)) _ (canonical-short limit s (firstOnes (statementIn s) n forms) (g .read)) gone-left
@@ -91,7 +91,7 @@ module _ {limit : ℕ} {s before now : List ℕ} {forms : List form.Statement} {
         subst (λ (k : ℕ). Putting limit s before now' forms n k at') (sym (add-one i))
         (record {
           read = g .read;
-          well = and-right (wellFormed limit (statementIn s this)) _ well-left;
+          fit = and-right (asRead limit (length s) (statementIn s this)) _ fit-left;
           gone = further gone-left w;
           held = g .held;
           most = omega (arith, h);

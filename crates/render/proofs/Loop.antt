@@ -16,10 +16,10 @@ use Rattle.token_laws.proofs.Tests.{and-left, and-right}
 use Rattle.reading.specs.Statement.{Statement}
 use Rattle.reading.specs.Answer.{Answer, accepted, tooLong}
 use Rattle.reading.specs.Read.{between, prepend, readScanned, readText}
-use Rattle.reading_laws.specs.WellFormed.{wellFormed}
+use Rattle.reading_laws.specs.Spelled.{asRead}
 use Rattle.reading_laws.proofs.Accepting.{not-refused}
 use Rattle.reading_laws.proofs.Joining.{text-accepted}
-use Rattle.reading_laws.proofs.WellRead.{text-well-formed}
+use Rattle.reading_laws.proofs.Spelled.{text-as-read}
 use Rattle.canonical.specs.Canonical.{canonical}
 use Rattle.canonical_laws.proofs.Shorter.{not-longer}
 use Rattle.forms.specs.declared.Statement as form
@@ -56,7 +56,7 @@ pub record Sofar (limit : ℕ) (s before now : List ℕ) (n cur at : ℕ) : Type
   pub left : List Statement
   pub read : readText limit s ≡ accepted statements
   pub here : readAt limit s n between cur ≡ accepted left
-  pub well : all (wellFormed limit) left ≡ true
+  pub fit : all (asRead limit (length s)) left ≡ true
   pub gone : Going before 0 (canonical statements) now at (restOf n left)
   pub few : n ≤ cur
 
@@ -67,7 +67,7 @@ none-yet limit s before a =
       left = a .statements;
       read = a .read;
       here = text-accepted limit s (a .statements) (a .read);
-      well = text-well-formed limit s (a .statements) (a .read);
+      fit = text-as-read limit s (a .statements) (a .read);
       gone = told (canonical-pieces (a .statements)) (going before 0 (canonical (a .statements)));
       few = omega arith;
     }
@@ -81,14 +81,14 @@ module _ {limit : ℕ} {s before now : List ℕ} {n cur at : ℕ} (g : Sofar lim
       rest : (more : List Statement) × (readAt limit s (suc n) between p ≡ accepted more) × (g .left ≡ statementIn s f ∷ more)
       rest = in-front (statementIn s f) (readAt limit s (suc n) between p) (g .left) (sym e ∙ g .here)
 
-      well-more : all (wellFormed limit) (statementIn s f ∷ rest .0) ≡ true
-      well-more = sym (ap (all (wellFormed limit)) (rest .2)) ∙ g .well
+      fit-more : all (asRead limit (length s)) (statementIn s f ∷ rest .0) ≡ true
+      fit-more = sym (ap (all (asRead limit (length s))) (rest .2)) ∙ g .fit
 
       gone-more : Going before 0 (canonical (g .statements)) now at (pieceOf n (statementIn s f) ++ restOf (suc n) (rest .0))
       gone-more = told (ap (restOf n) (rest .2)) (g .gone)
 
       pub next-fits : PartsFit s (apart f)
-      next-fits = statement-fits limit s f (and-left (wellFormed limit (statementIn s f)) _ well-more)
+      next-fits = statement-fits limit s f (and-left (asRead limit (length s) (statementIn s f)) _ fit-more)
 
       pub next-room : Room at (pieceOf n (statementIn s f))
       next-room = room-first (pieceOf n (statementIn s f)) (restOf (suc n) (rest .0)) (canonical-short limit s (g .statements) (g .read)) gone-more
@@ -102,7 +102,7 @@ module _ {limit : ℕ} {s before now : List ℕ} {n cur at : ℕ} (g : Sofar lim
             left = rest .0;
             read = g .read;
             here = rest .1;
-            well = and-right (wellFormed limit (statementIn s f)) _ well-more;
+            fit = and-right (asRead limit (length s) (statementIn s f)) _ fit-more;
             gone = further gone-more w;
             few = omega (arith, add-one n);
           })

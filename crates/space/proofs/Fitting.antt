@@ -1,4 +1,4 @@
--- The statements of an accepted text fit: each is well formed, and no longer than the canonical text, which is no longer than the text.
+-- The statements of an accepted text fit: each is well formed with its names in the text, and no longer than the canonical text, which is no longer than the text.
 -- Assumes nothing.
 use mathlib.Core.Path.{_≡_, _∙_, ap, subst}
 use mathlib.Core.Bool.{true}
@@ -13,9 +13,9 @@ use Rattle.token_laws.proofs.Tests.{all-at}
 use Rattle.reading.specs.Statement.{Statement}
 use Rattle.reading.specs.Answer.{accepted}
 use Rattle.reading.specs.Read.{readText}
-use Rattle.reading_laws.specs.WellFormed.{wellFormed}
+use Rattle.reading_laws.specs.Spelled.{asRead}
 use Rattle.reading_laws.proofs.Joining.{accepted-short}
-use Rattle.reading_laws.proofs.WellRead.{text-well-formed}
+use Rattle.reading_laws.proofs.Spelled.{text-as-read}
 use Rattle.canonical.specs.Canonical.{statementShapes, textShapes, canonical}
 use Rattle.canonical_laws.specs.Shorter.{widths, statementWidths}
 use Rattle.canonical_laws.proofs.Shorter.{not-longer}
@@ -60,9 +60,9 @@ module _ (limit : ℕ) (s : List ℕ) (r : Space) (w : Whole r) (e : readText li
       let q : k < length (statementsIn s r) = omega (arith, h, as-many) in
       record {
         limit = limit;
-        well =
-            subst (λ (x : Statement). wellFormed limit x ≡ true) (this-one d k h)
-            (all-at (wellFormed limit) (statementsIn s r) k (formIn s d) (text-well-formed limit s (statementsIn s r) e) q);
+        read =
+            subst (λ (x : Statement). asRead limit (length s) x ≡ true) (this-one d k h)
+            (all-at (asRead limit (length s)) (statementsIn s r) k (formIn s d) (text-as-read limit s (statementsIn s r) e) q);
         short =
             subst (λ (x : Statement). length (spellAll (statementShapes x)) ≤ 16384) (this-one d k h)
             (omega (

@@ -41,10 +41,6 @@ pub counts-are : (is : List Item) → valuesIn is ≡ entriesNumbers Count is
 counts-are [] = refl
 counts-are (i ∷ is) = ap (λ (l : List ℕ). entryNumbers Count i ++ l) (counts-are is)
 
--- a name's bytes end with it or with the text
-pub name-length : (s : List ℕ) (n : Name) → length (nameIn s n .spelling) ≡ min (n .length) (length s - n .offset)
-name-length s n = length-take (n .length) (drop (n .offset) s) ∙ ap (min (n .length)) (length-drop (n .offset) s)
-
 -- a list has as many entries as it says
 pub items-many : (s : List ℕ) (is : Items) → Listed s is → length (itemsIn s is) ≡ is .count
 items-many s is l = ap length (items-are s is l) ∙ entries-length (is .count) (tokensFrom s (is .first .at)) (l .are)

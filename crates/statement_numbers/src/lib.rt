@@ -77,26 +77,12 @@ fn put_three(out: &mut [u32], at: usize, first: usize, second: usize, third: usi
     put_two(out, next, second, third)
 }
 
-// How many bytes of a text a name has: none past the text's end, where what it stands for has none either.
-fn length_in(text: &[u8], name: Name) -> usize
-    ensures { λ r. ⌜ r ≡ length (nameIn (now (text .entry)) name .spelling) ⌝ }
-{
-    if text.len() <= name.offset {
-        return 0;
-    }
-    let left = text.len() - name.offset;
-    if left < name.length {
-        return left;
-    }
-    name.length
-}
-
 // A name behind the number for its kind.
 fn put_name(text: &[u8], kind: usize, name: Name, out: &mut [u32], at: usize) -> usize
-    requires { ⌜ Ready at (kind ∷ pairNumbers (nameIn (now text) name)) ⌝ }
+    requires { ⌜ InText (now text) name × Ready at (kind ∷ pairNumbers (nameIn (now text) name)) ⌝ }
     ensures { λ r. ⌜ Written (now (out .entry)) at (kind ∷ pairNumbers (nameIn (now (text .entry)) name)) (now (out .exit)) r ⌝ }
 {
-    put_three(out, at, kind, name.offset, length_in(text, name))
+    put_three(out, at, kind, name.offset, name.length)
 }
 
 fn number_of(kind: Kind) -> usize

@@ -5,14 +5,16 @@ use mathlib.Core.Bool.{Bool, true}
 use mathlib.Core.List.{List, [], _∷_}
 use mathlib.Core.Option.{Option, some, none, Option·none-ne-some}
 use Prim.Native.Nat.{ℕ, zero, suc}
-use lib.ListN.{getElem?}
+use lib.ListN.{length, getElem?}
 use Rattle.token_laws.specs.Shaped.{all}
 use Rattle.token_laws.proofs.Tests.{and-left, and-right}
 use Rattle.reading.specs.Statement.{Statement}
 use Rattle.reading.specs.Answer.{Answer, accepted, refused}
 use Rattle.reading.specs.Read.{readText}
 use Rattle.reading_laws.specs.WellFormed.{wellFormed}
+use Rattle.reading_laws.specs.Spelled.{asRead}
 use Rattle.reading_laws.proofs.WellRead.{text-well-formed}
+use Rattle.reading_laws.proofs.Spelled.{text-as-read}
 use Rattle.reading_laws.proofs.Accepting.{not-refused}
 use Rattle.statements.specs.Answers.{chosen, nthOf}
 
@@ -41,6 +43,10 @@ found-passes p i x (accepted ss) h e = go (getElem? ss i) refl e
     go none g e = absurd (not-refused (sym e))
     go (some y) g e = at-index p ss i x (h ss refl) (ap some (accepted-inj e) ∙ g)
 
--- It is well formed.
+-- It is well formed, and its names end before the text does.
 pub found-well : (limit : ℕ) (s : List ℕ) (i : ℕ) (x : Statement) → accepted x ≡ nthOf i (readText limit s) → wellFormed limit x ≡ true
 found-well limit s i x e = found-passes (wellFormed limit) i x (readText limit s) (text-well-formed limit s) e
+
+pub found-as-read :
+    (limit : ℕ) (s : List ℕ) (i : ℕ) (x : Statement) → accepted x ≡ nthOf i (readText limit s) → asRead limit (length s) x ≡ true
+found-as-read limit s i x e = found-passes (asRead limit (length s)) i x (readText limit s) (text-as-read limit s) e

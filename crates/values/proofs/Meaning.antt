@@ -1,6 +1,6 @@
 -- A value stands for the statement that was found: its arrays hold the lists that the statement has in the text.
 -- Assumes nothing.
-use mathlib.Core.Path.{_≡_, refl, _∙_, ap, sym}
+use mathlib.Core.Path.{_≡_, refl, _∙_, ap, sym, subst}
 use mathlib.Core.Bool.{true}
 use mathlib.Core.List.{List, [], map}
 use Prim.Native.Nat.{ℕ}
@@ -43,19 +43,29 @@ use Rattle.lists.specs.Lists.{itemsFor, inOrder}
 use Rattle.lists.proofs.Order.{ordered-within, ordered-items, items-ordered}
 use Rattle.parts.specs.declared.Part.{Part}
 use Rattle.parts.specs.declared.Part.the-variants as part
-use Rattle.parts.specs.declared.Parts.{Parts}
 use Rattle.parts.specs.Apart.{featureApart, apart}
-use Rattle.parts.specs.Meaning.{PartFits, PartsFit}
+use Rattle.parts.specs.Meaning.{PartFits}
 use Rattle.parts.proofs.Fitting.{statement-fits}
 use Rattle.statements.specs.declared.StatementAt.{StatementAt}
 use Rattle.statements.specs.declared.StatementAt.the-variants as found
 use Rattle.statements.specs.Answers.{statementAs, nthOf}
-use Rattle.statements.proofs.Found.{found-well}
+use Rattle.statements.proofs.Found.{found-as-read}
 use Rattle.values.specs.declared.Value.{Value}
 use Rattle.values.specs.declared.Lists.{Lists}
 use Rattle.values.specs.Lists.{noItems, namesIn, partsLists, foundLists}
 use Rattle.values.specs.Lists as lists
-use Rattle.values.specs.Value.{countsWith, transitsWith, itemsWith, operandWith, inArrays, foundWith, valueAs, Usable, Filled}
+use Rattle.values.specs.Value.{
+  countsWith,
+  transitsWith,
+  itemsWith,
+  operandWith,
+  inArrays,
+  foundWith,
+  valueAs,
+  FoundFits,
+  Usable,
+  Filled,
+}
 
 -- The lists of what was found can be read again.
 pub record Readable (s : List ℕ) (l : Lists) : Type 0 where
@@ -94,16 +104,18 @@ module _ (s : List ℕ) where
   counts-listed part.Absent f = none-listed
   counts-listed part.Omitted f = none-listed
 
-  pub found-readable : (limit i : ℕ) (f : StatementAt) → statementAs s f ≡ nthOf i (readText limit s) → Readable s (foundLists f)
+  pub found-fits : (limit i : ℕ) (f : StatementAt) → statementAs s f ≡ nthOf i (readText limit s) → FoundFits s f
   unfolding statementAs
-  found-readable limit i (found.Statement st) e =
-      let p = statement-fits limit s st (found-well limit s i (statementIn s st) e) in
-      record {
-        first = names-listed (apart st .first) (p .first);
-        second = names-listed (apart st .second) (p .second);
-        counts = counts-listed (apart st .first) (p .first);
-      }
-  found-readable limit i (found.Refused r) e = record { first = none-listed; second = none-listed; counts = none-listed }
+  found-fits limit i (found.Statement st) e = statement-fits limit s st (found-as-read limit s i (statementIn s st) e)
+  found-fits limit i (found.Refused r) e = tt
+
+  pub found-readable : (f : StatementAt) → FoundFits s f → Readable s (foundLists f)
+  found-readable (found.Statement st) p = record {
+    first = names-listed (apart st .first) (p .first);
+    second = names-listed (apart st .second) (p .second);
+    counts = counts-listed (apart st .first) (p .first);
+  }
+  found-readable (found.Refused r) p = record { first = none-listed; second = none-listed; counts = none-listed }
 
   -- the entries of a list, from an array that holds them
   module _ (xs : List Item) (is : Items) (l : Listed s is) (e : take (is .count) xs ≡ itemsFor (itemsIn s is)) where
@@ -164,9 +176,10 @@ module _ (s : List ℕ) where
   found-means v (found.Statement st) e r h = ap (foundWith s v) e ∙ ap accepted (statement-means v (partsLists (apart st)) r h st refl)
   found-means v (found.Refused x) e r h = ap (foundWith s v) e
 
-  -- Its lists can be used as they stand.
-  pub found-usable : (v : Value) (f : StatementAt) → v .found ≡ f → Readable s (foundLists f) → Filled s (foundLists f) v → Usable s v
-  found-usable v f e r h = record {
+  -- Its names and its lists can be used as they stand.
+  pub found-usable : (v : Value) (f : StatementAt) → v .found ≡ f → FoundFits s f → Readable s (foundLists f) → Filled s (foundLists f) v → Usable s v
+  found-usable v f e p r h = record {
+    fits = subst (FoundFits s) (sym e) p;
     few-first = rw e (r .first .few);
     few-second = rw e (r .second .few);
     few-counts = rw e (r .counts .few);

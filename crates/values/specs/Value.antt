@@ -18,6 +18,8 @@ use Rattle.forms.specs.declared.Operand.the-variants as operand
 use Rattle.forms.specs.Items.{nameIn, itemIn, itemsIn}
 use Rattle.forms.specs.Forms.{someNameIn, valuesIn, Meanings, statementBy}
 use Rattle.lists.specs.Lists.{itemsFor, inOrder}
+use Rattle.parts.specs.Apart.{apart}
+use Rattle.parts.specs.Meaning.{PartsFit}
 use Rattle.statements.specs.declared.StatementAt.{StatementAt}
 use Rattle.statements.specs.declared.StatementAt.the-variants as found
 use Rattle.values.specs.declared.Value.{Value}
@@ -62,8 +64,14 @@ foundWith s v (found.Refused r) = refused (r .number) (r .place)
 abbrev pub valueAs : List ℕ → Value → Answer statement.Statement
 valueAs s v = foundWith s v (v .found)
 
--- Each list has as many entries as it says, at most 64; each pair lies in the text and ends before the next one starts.
+-- what was found has its names in the text: symbols and names alone lie in it, and lists can be read again from where they start
+abbrev pub FoundFits : List ℕ → StatementAt → Type 0
+FoundFits s (found.Statement f) = PartsFit s (apart f)
+FoundFits s (found.Refused r) = Unit {0}
+
+-- Each list has as many entries as it says, at most 64. Each pair lies in the text, and those of a list end before the next one starts.
 pub record Usable (s : List ℕ) (v : Value) : Type 0 where
+  pub fits : FoundFits s (v .found)
   pub few-first : foundLists (v .found) .first .count ≤ 64
   pub few-second : foundLists (v .found) .second .count ≤ 64
   pub few-counts : foundLists (v .found) .counts .count ≤ 64

@@ -65,8 +65,11 @@ put-parts-requires : tie.Need-put-parts-requires
 unfolding keywords
 put-parts-requires c κs =
     let o = c .before in
-    let s = o .before .before .before .before .before .before .before in
-    (s .pre .0, s .pre .1, s .pre .2, group-fits _ _ _ _ _ _, refl, omega arith, room-same (s .args .at) (sym (same o)) (s .pre .6))
+    let q = o .before in
+    let p = q .before .before in
+    let s = p .before .before .before .before in
+    let names = group-fits _ _ _ _ _ _ (p .pair-at .ensures .0) (q .pair-at2 .ensures .0) in
+    (s .pre .0, s .pre .1, s .pre .2, names, refl, omega arith, room-same (s .args .at) (sym (same o)) (s .pre .6))
 
 returns : tie.Need-returns
 returns c =

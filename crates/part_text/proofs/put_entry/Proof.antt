@@ -11,7 +11,7 @@ put-name-requires : tie.Need-put-name-requires
 put-name-requires c κs =
     let e = c .before in
     let a = e .before .before .before .before in
-    rw (spell-name (nameIn (now (a .args .text)) (a .args .name))) at (rw (e .enum-told .given .1) at (a .pre .1))
+    (a .pre .0, rw (spell-name (nameIn (now (a .args .text)) (a .args .name))) at (rw (e .enum-told .given .1) at (a .pre .1)))
 
 put-count-requires : tie.Need-put-count-requires
 put-count-requires c κs =

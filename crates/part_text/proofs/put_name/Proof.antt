@@ -5,7 +5,7 @@ use Rattle.part_text.proofs.put_name.Statement.{statement}
 use Rattle.part_text.proofs.put_name.Tie as tie
 
 put-all-requires : tie.Need-put-all-requires
-put-all-requires c κs = rw (c .spelling .ensures) (c .before .before .before .before .pre)
+put-all-requires c κs = rw (c .spelling .ensures) (c .before .before .before .before .pre .1)
 
 returns : tie.Need-returns
 returns c =

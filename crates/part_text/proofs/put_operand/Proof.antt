@@ -18,7 +18,8 @@ put-symbol-requires : tie.Need-put-symbol-requires
 unfolding operandIn
 put-symbol-requires c κs =
     let e = c .before .before in
-    (rw (e .operand .given .1) at (e .before .before .before .before .pre)) .2
+    let h = rw (e .operand .given .1) at (e .before .before .before .before .pre) in
+    (h .1, h .2)
 
 put-names-requires : tie.Need-put-names-requires
 put-names-requires c κs =

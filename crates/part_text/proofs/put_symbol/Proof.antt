@@ -13,7 +13,7 @@ put-name-requires c κs =
     let p = c .before .before .before in
     let a = p .before .before .before .before in
     let n = nameIn (now (a .args .text)) (a .args .name) in
-    room-first (n .spelling) [] (a .pre) (further (going _ _ _) (p .put .ensures))
+    (a .pre .0, room-first (n .spelling) [] (a .pre .1) (further (going _ _ _) (p .put .ensures)))
 
 returns : tie.Need-returns
 returns c =

@@ -10,7 +10,7 @@ use Rattle.canonical.specs.Numbers.{numbersOf}
 use Rattle.forms.specs.Forms.{statementIn}
 use Rattle.parts.proofs.Fitting.{statement-fits}
 use Rattle.statements.specs.Answers.{statementAs}
-use Rattle.statements.proofs.Found.{found-well}
+use Rattle.statements.proofs.Found.{found-as-read}
 use Rattle.statements.specs.Answers.{stating}
 use Rattle.statement_numbers.specs.Answers.{numbered, numbersAs}
 use Rattle.statement_numbers.proofs.Whole.{statement-numbers, numbers-ready, handed-on}
@@ -39,7 +39,7 @@ put-whole-requires c κs =
     let st = d .statement .given .0 .0 in
     rw (p .parts-of .ensures) (
       refl,
-      statement-fits (a .limit) s st (found-well (a .limit) s (a .index) (statementIn s st) (whole d)),
+      statement-fits (a .limit) s st (found-as-read (a .limit) s (a .index) (statementIn s st) (whole d)),
       numbers-ready (a .limit) s (a .index) st (whole d),
     )
 

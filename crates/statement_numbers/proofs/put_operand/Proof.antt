@@ -37,7 +37,8 @@ put-name-requires : tie.Need-put-name-requires
 unfolding operandIn
 put-name-requires c κs =
     let d = c .before .before in
-    rw (d .operand .given .1) at (d .before .before .before .before .pre .2)
+    let h = rw (d .operand .given .1) at (d .before .before .before .before .pre) in
+    (h .1, h .2)
 
 put-list-requires : tie.Need-put-list-requires
 put-list-requires c κs =

@@ -51,7 +51,8 @@ put-operand-requires c κs =
 put-name-requires : tie.Need-put-name-requires
 put-name-requires c κs =
     let d = c .before .before in
-    (rw (d .part4 .given .1) at (d .before .before .before .before .pre)) .2
+    let h = rw (d .part4 .given .1) at (d .before .before .before .before .pre) in
+    (h .1, h .2)
 
 put-list-requires : tie.Need-put-list-requires
 put-list-requires c κs =

@@ -47,7 +47,7 @@ put-name-requires : tie.Need-put-name-requires
 put-name-requires c κs =
     let e = c .before .before in
     let h = rw (e .part4 .given .1) at (e .before .before .before .before .pre) in
-    room-same _ (name-alone (nameIn _ (e .part4 .given .0 .0))) (h .3)
+    (h .2, room-same _ (name-alone (nameIn _ (e .part4 .given .0 .0))) (h .3))
 
 put-names-requires : tie.Need-put-names-requires
 put-names-requires c κs =

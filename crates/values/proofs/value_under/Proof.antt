@@ -5,16 +5,19 @@ use borrow.Author.Needs.{needs}
 use Rattle.tokens.specs.Class.{classOf, classTable}
 use Rattle.values.specs.declared.Lists.{Lists}
 use Rattle.values.specs.Lists.{foundLists}
-use Rattle.values.specs.Value.{Filled}
-use Rattle.values.proofs.Meaning.{Readable, found-readable, found-means, found-usable}
+use Rattle.values.specs.Value.{FoundFits, Filled}
+use Rattle.values.proofs.Meaning.{Readable, found-fits, found-readable, found-means, found-usable}
 use Rattle.values.proofs.value_under.Statement.{statement}
 use Rattle.values.proofs.value_under.Tie as tie
 
--- the lists of what was found
-readable : (c : tie.After-statement-under) → Readable (now (c .before .before .args .text)) (foundLists (c .statement-under .result))
-readable c =
+-- what was found, and its lists
+fits : (c : tie.After-statement-under) → FoundFits (now (c .before .before .args .text)) (c .statement-under .result)
+fits c =
     let a = c .before .before .args in
-    found-readable (now (a .text)) (a .limit) (a .index) (c .statement-under .result) (c .statement-under .ensures)
+    found-fits (now (a .text)) (a .limit) (a .index) (c .statement-under .result) (c .statement-under .ensures)
+
+readable : (c : tie.After-statement-under) → Readable (now (c .before .before .args .text)) (foundLists (c .statement-under .result))
+readable c = found-readable (now (c .before .before .args .text)) (c .statement-under .result) (fits c)
 
 value-of-requires : tie.Need-value-of-requires
 unfolding classTable classOf
@@ -32,7 +35,7 @@ returns c =
     let v = c .value-of .result in
     let e = c .value-of .ensures in
     let h = subst (λ (l : Lists). Filled s l v) (d .found-lists .ensures) (e .1) in
-    (found-means s v f (e .0) (readable k) h ∙ k .statement-under .ensures, found-usable s v f (e .0) (readable k) h)
+    (found-means s v f (e .0) (readable k) h ∙ k .statement-under .ensures, found-usable s v f (e .0) (fits k) (readable k) h)
 
 pub value-under-spec : {M : Type 1} → statement M
 value-under-spec = tie.close (tie.spec (λ c κs. search needs) (λ c κs. search needs) value-of-requires returns)
