@@ -1,3 +1,4 @@
 pub mod Scan
 pub mod Word
 pub mod Joined
+pub mod Told

@@ -1,5 +1,5 @@
 -- An answer as one 64-bit number, for programs in other languages: what a call gives, or a refusal's number times 2^32 and its place. What is
--- given and a place are below 2^32 (`Below`), so the three can be told from the word.
+-- given and a place are below 2^32 (`Below`), and a number is at least 1, so the three can be told from the word (`answerIn`).
 use Prim.Native.Nat.{ℕ, _+_, _*_, _<_}
 use Rattle.reading.specs.Answer.{Answer, accepted, refused}
 
