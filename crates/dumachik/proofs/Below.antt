@@ -18,10 +18,11 @@ use Rattle.reading.specs.Read.{readScanned, readText}
 use Rattle.reading_laws.proofs.Within.{refused-within}
 use Rattle.reading_laws.proofs.Joining.{accepted-short}
 use Rattle.canonical.specs.Print.{lengthOf, printed, printText, fitting}
-use Rattle.canonical.specs.Numbers.{numbersOf}
+use Rattle.canonical.specs.Numbers.{numbersOf, allNumbered, allNumbering}
 use Rattle.canonical_laws.proofs.Shorter.{not-longer}
 use Rattle.canonical_laws.proofs.Rereading.{few-statements}
 use Rattle.canonical_laws.proofs.Numbers.{few-numbers}
+use Rattle.canonical_laws.proofs.Rooms.{all-numbers-room}
 use Rattle.statements.specs.Answers.{counted, chosen, nthOf}
 use Rattle.statements.proofs.Found.{found-well}
 use Rattle.statements.specs.Answers.{counting}
@@ -74,4 +75,12 @@ statement-below limit room s i h = fitted room (numbering limit s i) (go (readTe
 
     go : (a : Answer (List Statement)) → readText limit s ≡ a → Below (lengthOf (numbered (nthOf i a)))
     go (accepted ss) e = found (getElem? ss i) (rw e)
+    go (refused k p) e = fault-below limit s k p e
+
+pub statements-below : (limit room : ℕ) (s : List ℕ) → Below (lengthOf (fitting room (allNumbering limit s)))
+unfolding allNumbering
+statements-below limit room s = fitted room (allNumbered (readText limit s)) (go (readText limit s) refl)
+  where
+    go : (a : Answer (List Statement)) → readText limit s ≡ a → Below (lengthOf (allNumbered a))
+    go (accepted ss) e = omega (arith, all-numbers-room limit s ss e, accepted-short limit s ss e)
     go (refused k p) e = fault-below limit s k p e

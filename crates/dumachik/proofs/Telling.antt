@@ -16,6 +16,7 @@ use Rattle.reading.specs.Read.{readText}
 use Rattle.reading_laws.specs.WellFormed.{isFault, Gives, given, nothing}
 use Rattle.reading_laws.proofs.Faults.{Anything, either-gives, text-gives, fault-least, fault-most}
 use Rattle.canonical.specs.Print.{lengthOf, fitting, printed, printText}
+use Rattle.canonical.specs.Numbers.{allNumbered, allNumbering}
 use Rattle.resolving.specs.Resolve.{Resolved}
 use Rattle.resolving.specs.Call.{Lengths, lengthsOf, resolveCall}
 use Rattle.resolving_laws.proofs.Faults.{call-gives}
@@ -25,7 +26,7 @@ use Rattle.records.specs.Words.{lengthsWord, resolvedWord, Small}
 use Rattle.records.proofs.Below.{resolved-small}
 use Rattle.dumachik.specs.Word.{word, Below}
 use Rattle.dumachik.specs.Told.{answerIn, lengthsIn, resolvedIn}
-use Rattle.dumachik.proofs.Below.{count-below, print-below, statement-below}
+use Rattle.dumachik.proofs.Below.{count-below, print-below, statement-below, statements-below}
 
 -- A refusal's number and its place.
 
@@ -92,6 +93,10 @@ numbered-gives : (i : ℕ) {a : Answer (List Statement)} → Gives Anything a �
 numbered-gives i (given {a = ss} h) = chosen-gives i (getElem? ss i)
 numbered-gives i (nothing e) = nothing e
 
+all-numbered-gives : {a : Answer (List Statement)} → Gives Anything a → Gives Anything (allNumbered a)
+all-numbered-gives (given h) = given tt
+all-numbered-gives (nothing e) = nothing e
+
 length-gives : {a : Answer (List ℕ)} → Gives Anything a → Gives Anything (lengthOf a)
 length-gives (given h) = given tt
 length-gives (nothing e) = nothing e
@@ -123,6 +128,14 @@ pub statement-told :
 statement-told limit room text i h =
     told (lengthOf (fitting room (numbering limit text i))) (length-gives (fitting-gives room (numbered-gives i (text-gives limit text))))
     (statement-below limit room text i h)
+
+pub statements-told :
+    (limit room : ℕ) (text : List ℕ)
+    → answerIn (word (lengthOf (fitting room (allNumbering limit text)))) ≡ lengthOf (fitting room (allNumbering limit text))
+unfolding allNumbering
+statements-told limit room text =
+    told (lengthOf (fitting room (allNumbering limit text))) (length-gives (fitting-gives room (all-numbered-gives (text-gives limit text))))
+    (statements-below limit room text)
 
 pub resolve-told :
     (limit : ℕ) (block numbers text : List ℕ) (lent : Lengths) (work : ℕ)

@@ -6,6 +6,7 @@ ghost use lib.ListN.{length};
 ghost use Rattle.tokens.specs.Lex.{tokens};
 ghost use Rattle.tokens.specs.Next.{scanned};
 ghost use Rattle.canonical.specs.Print.{printText, lengthOf, fitting, output};
+ghost use Rattle.canonical.specs.Numbers.{allNumbering};
 ghost use Rattle.statements.specs.Answers.{counting};
 ghost use Rattle.statement_numbers.specs.Answers.{numbering};
 ghost use Rattle.resolving.specs.Resolve.{groundText};
@@ -60,6 +61,19 @@ pub extern "C" fn mfl_statement(text: &[u8], index: u32, out: &mut [u32]) -> u64
     match statement_numbers::numbers_at(text, index, out) {
         NumbersAt::Count(n) => n as u64,
         NumbersAt::Refused(refusal) => refusal_word(refusal),
+    }
+}
+
+// Statement of every index at once: the numbers of all statements in `out`, one statement after the other, those of each behind how many they
+// are; and how many all are.
+#[no_mangle]
+pub extern "C" fn mfl_statements(text: &[u8], out: &mut [u32]) -> u64
+    ensures { λ r. ⌜ r ≡ word (lengthOf (fitting (length (now (out .entry))) (allNumbering 64 (now (text .entry))))) ⌝ }
+    ensures { λ _. ⌜ now (out .exit) ≡ output (fitting (length (now (out .entry))) (allNumbering 64 (now (text .entry)))) (now (out .entry)) ⌝ }
+{
+    match all_numbers::all_numbers(text, out) {
+        NumbersAt::Count(all) => all as u64,
+        NumbersAt::Refused(fault) => refusal_word(fault),
     }
 }
 

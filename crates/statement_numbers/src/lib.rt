@@ -47,7 +47,7 @@ pub enum NumbersAt {
 }
 
 // One number, and the index behind it.
-fn put(out: &mut [u32], at: usize, number: usize) -> usize
+pub fn put(out: &mut [u32], at: usize, number: usize) -> usize
     requires { ⌜ Ready at (number ∷ []) ⌝ }
     ensures { λ r. ⌜ Written (now (out .entry)) at (number ∷ []) (now (out .exit)) r ⌝ }
 {
@@ -264,7 +264,7 @@ fn put_head(keyword: usize, optional: bool, out: &mut [u32], at: usize) -> usize
 }
 
 // A statement that was taken apart.
-fn put_parts(text: &[u8], classes: &Classes, parts: Parts, out: &mut [u32], at: usize) -> usize
+pub fn put_parts(text: &[u8], classes: &Classes, parts: Parts, out: &mut [u32], at: usize) -> usize
     requires { ⌜ (now classes ≡ classTable) × PartsFit (now text) parts × Ready at (takenIn (now text) parts) ⌝ }
     ensures { λ r. ⌜ Written (now (out .entry)) at (takenIn (now (text .entry)) parts) (now (out .exit)) r ⌝ }
 {

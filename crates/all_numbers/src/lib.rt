@@ -1,0 +1,182 @@
+// All statements of a text as 32-bit numbers in the caller's buffer, for programs in other languages: the numbers of each, one statement after
+// the other, behind how many they are. The text is read once, and nothing is written before it is known that it is accepted and that the
+// numbers have room.
+ghost use mathlib.Core.Path.{_≡_};
+ghost use Prim.Native.Nat.{_*_, _≤_};
+ghost use lib.ListN.{length};
+ghost use Rattle.tokens.specs.Class.{classTable};
+ghost use Rattle.labels.specs.Table.{labelTable, keywordTable};
+ghost use Rattle.reading.specs.Answer.{accepted};
+ghost use Rattle.canonical.specs.Print.{lengthOf, fitting, output};
+ghost use Rattle.canonical.specs.Numbers.{countedNumbers, allNumbersOf, allNumbering};
+ghost use Rattle.forms.specs.Forms.{statementIn};
+ghost use Rattle.parts.specs.Apart.{apart};
+ghost use Rattle.parts.specs.Meaning.{PartsFit};
+ghost use Rattle.writing.specs.Written.{Written};
+ghost use Rattle.statement_numbers.specs.Ready.{Ready};
+ghost use Rattle.statement_numbers.specs.Answers.{numbersAs};
+ghost use Rattle.space.specs.Space.{statementsIn, Whole};
+ghost use Rattle.all_numbers.specs.Answers.{WasRead, Answers};
+use forms::Feature;
+use forms::Modes;
+use forms::Refusal;
+use forms::Statement;
+use labels::Keywords;
+use labels::Labels;
+use space::Ending;
+use space::Space;
+use statement_numbers::NumbersAt;
+use statements::NextRead;
+use tokens::Classes;
+use tokens::Cursor;
+
+// The numbers of a statement behind how many they are, which is written when they are.
+fn put_counted(
+    text: &[u8],
+    classes: &Classes,
+    statement: Statement,
+    out: &mut [u32],
+    at: usize,
+) -> usize
+    requires { ⌜ (now classes ≡ classTable) × PartsFit (now text) (apart statement)
+        × Ready at (countedNumbers (statementIn (now text) statement)) ⌝ }
+    ensures { λ r. ⌜ Written (now (out .entry)) at (countedNumbers (statementIn (now (text .entry)) statement)) (now (out .exit)) r ⌝ }
+{
+    let parts = parts::parts_of(statement);
+    let first = at + 1;
+    let next = statement_numbers::put_parts(text, classes, parts, out, first);
+    statement_numbers::put(out, at, next - first);
+    next
+}
+
+// A form that stands for none. All its bytes are zero, so that an array of it is made at once.
+fn no_form() -> Statement {
+    Statement::Feature(Feature::Absorption(Modes::Wildcard))
+}
+
+fn no_forms() -> [Statement; 256]
+    ensures { λ r. ⌜ length r ≡ 256 ⌝ }
+{
+    [no_form(); 256]
+}
+
+// The numbers of all statements, in a buffer that has two for each byte of the text: more there never are, so they need not be measured.
+fn put_read(
+    text: &[u8],
+    classes: &Classes,
+    labels: &Labels,
+    keys: &Keywords,
+    limit: u32,
+    out: &mut [u32],
+) -> NumbersAt
+    requires { ⌜ (now classes ≡ classTable) × (now labels ≡ labelTable) × (now keys ≡ keywordTable) × (length (now text) ≤ 16384)
+        × (2 * length (now text) ≤ length (now out)) ⌝ }
+    ensures { λ r. ⌜ Answers (allNumbering limit (now (text .entry))) (now (out .entry)) (now (out .exit)) r ⌝ }
+{
+    let mut forms = no_forms();
+    let mut n = 0;
+    let mut cur = Cursor::new();
+    loop {
+        match statements::next_statement(text, classes, labels, keys, cur, n, limit) {
+            NextRead::Statement(form, after) => {
+                forms[n] = form;
+                cur = after;
+                n += 1;
+            }
+            NextRead::End => break,
+            NextRead::Refused(r) => {
+                return NumbersAt::Refused(statements::earliest(text, classes, r));
+            }
+        }
+    }
+    let mut i = 0;
+    let mut at = 0;
+    while i < n {
+        let form = forms[i];
+        at = put_counted(text, classes, form, out, at);
+        i += 1;
+    }
+    NumbersAt::Count(at)
+}
+
+// The numbers of statements that are kept, as far as the buffer has room, and how many there are.
+fn put_space(text: &[u8], classes: &Classes, space: Space, out: &mut [u32]) -> usize
+    requires { ⌜ (now classes ≡ classTable) × Whole space × WasRead (now text) (statementsIn (now text) space) ⌝ }
+    ensures { λ r. ⌜ Written (now (out .entry)) 0 (allNumbersOf (statementsIn (now (text .entry)) space)) (now (out .exit)) r ⌝ }
+{
+    let forms = space.forms;
+    let count = space.count;
+    let mut i = 0;
+    let mut at = 0;
+    while i < count {
+        let form = forms[i];
+        let statement = form.statement;
+        at = put_counted(text, classes, statement, out, at);
+        i += 1;
+    }
+    at
+}
+
+// The same if there is room for all of them: they are counted first, on none of the buffer.
+fn put_measured(text: &[u8], classes: &Classes, space: Space, out: &mut [u32]) -> NumbersAt
+    requires { ⌜ (now classes ≡ classTable) × Whole space × WasRead (now text) (statementsIn (now text) space) ⌝ }
+    ensures { λ r. ⌜ Answers (accepted (allNumbersOf (statementsIn (now (text .entry)) space))) (now (out .entry)) (now (out .exit)) r ⌝ }
+{
+    let room = out.len();
+    let size = put_space(text, classes, space, &mut out[..0]);
+    if room < size {
+        return NumbersAt::Refused(Refusal {
+            number: forms::TOO_SHORT,
+            place: 0,
+        });
+    }
+    NumbersAt::Count(put_space(text, classes, space, out))
+}
+
+// The numbers of all statements in a buffer of any length.
+fn put_short(
+    text: &[u8],
+    classes: &Classes,
+    labels: &Labels,
+    keys: &Keywords,
+    limit: u32,
+    out: &mut [u32],
+) -> NumbersAt
+    requires { ⌜ (now classes ≡ classTable) × (now labels ≡ labelTable) × (now keys ≡ keywordTable) × (length (now text) ≤ 16384) ⌝ }
+    ensures { λ r. ⌜ Answers (allNumbering limit (now (text .entry))) (now (out .entry)) (now (out .exit)) r ⌝ }
+{
+    let space = space::read_space(text, classes, labels, keys, limit);
+    let ending = space.ending;
+    match ending {
+        Ending::Refused(r) => NumbersAt::Refused(r),
+        Ending::Accepted => put_measured(text, classes, space, out),
+    }
+}
+
+// The numbers of all statements of a text, or why there are none.
+pub fn all_numbers_under(text: &[u8], limit: u32, out: &mut [u32]) -> NumbersAt
+    ensures { λ r. ⌜ (numbersAs r ≡ lengthOf (fitting (length (now (out .entry))) (allNumbering limit (now (text .entry)))))
+        × (now (out .exit) ≡ output (fitting (length (now (out .entry))) (allNumbering limit (now (text .entry)))) (now (out .entry))) ⌝ }
+{
+    let size = text.len();
+    if 16384 < size {
+        return NumbersAt::Refused(Refusal {
+            number: forms::TOO_LONG,
+            place: 0,
+        });
+    }
+    let classes = tokens::CLASSES;
+    let labels = labels::LABELS;
+    let keys = labels::KEYWORDS;
+    if 2 * size <= out.len() {
+        return put_read(text, &classes, &labels, &keys, limit, out);
+    }
+    put_short(text, &classes, &labels, &keys, limit, out)
+}
+
+pub fn all_numbers(text: &[u8], out: &mut [u32]) -> NumbersAt
+    ensures { λ r. ⌜ (numbersAs r ≡ lengthOf (fitting (length (now (out .entry))) (allNumbering 64 (now (text .entry)))))
+        × (now (out .exit) ≡ output (fitting (length (now (out .entry))) (allNumbering 64 (now (text .entry)))) (now (out .entry))) ⌝ }
+{
+    all_numbers_under(text, 64, out)
+}
