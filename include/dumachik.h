@@ -117,6 +117,11 @@ uint64_t mfl_print(const uint8_t *text, size_t length, uint8_t *out, size_t room
  */
 uint64_t mfl_statement(const uint8_t *text, size_t length, uint32_t index, uint32_t *out, size_t room);
 
+/* Statement at every index, in one reading of the text: the numbers of all statements, one statement after the other, those of each behind how
+ * many they are, and how many all are. `out` past them is as it was, and all of it where the call refuses, by 19 where `room` is shorter than
+ * the answer. Two for each byte of the text always suffice (proved). */
+uint64_t mfl_statements(const uint8_t *text, size_t length, uint32_t *out, size_t room);
+
 /* An effect: the parameter and the covariate, each the index of its name's first entry in its list (declared covariates, or data columns
  * without a block), the form by its place in COVARIATE's family, the operator (0 `*`, 1 `+`), and whether it is optional (0 or 1). */
 struct mfl_effect {

@@ -21,7 +21,6 @@ __all__ = ["count", "render", "statements", "resolve", "Context", "Effect", "Not
 MAX_TEXT = 16384
 MAX_EFFECTS = 2048
 MAX_NOTES = 257
-STATEMENT_ROOM = 272
 WORKING = 6656
 
 MEANINGS = {
@@ -166,7 +165,7 @@ def _load():
     signatures = {
         "mfl_count": [text, size],
         "mfl_print": [text, size, text, size],
-        "mfl_statement": [text, size, ctypes.c_uint32, numbers, size],
+        "mfl_statements": [text, size, numbers, size],
         "mfl_resolve": [text, size, text, size, numbers, size, text, size, ctypes.POINTER(_Effect), size, ctypes.POINTER(_Note), size]
         + [numbers, size],
     }
@@ -208,12 +207,12 @@ def render(text):
 def statements(text):
     """The statements of a text, in their order."""
     text = _bytes(text)
-    out = (ctypes.c_uint32 * STATEMENT_ROOM)()
-    found = []
-    for index in range(count(text)):
-        written = _answered(_library.mfl_statement(text, len(text), index, out, STATEMENT_ROOM), text)
-        found.append(_statement(iter(out[:written]), text))
-    return found
+    # two numbers for each byte of the text always suffice
+    room = 2 * min(len(text), MAX_TEXT)
+    out = (ctypes.c_uint32 * max(1, room))()
+    numbers = iter(out[: _answered(_library.mfl_statements(text, len(text), out, room), text)])
+    # each statement stands behind how many numbers it has
+    return [_statement(numbers, text) for _ in numbers]
 
 
 def _statement(numbers, text):

@@ -8,6 +8,7 @@ mod library {
         pub fn mfl_count(text: *const u8, length: usize) -> u64;
         pub fn mfl_print(text: *const u8, length: usize, out: *mut u8, room: usize) -> u64;
         pub fn mfl_statement(text: *const u8, length: usize, index: u32, out: *mut u32, room: usize) -> u64;
+        pub fn mfl_statements(text: *const u8, length: usize, out: *mut u32, room: usize) -> u64;
         pub fn mfl_resolve(
             text: *const u8,
             length: usize,
@@ -54,6 +55,14 @@ pub fn print_into(text: &[u8], out: &mut [u8]) -> Result<usize, Refusal> {
 pub fn statement_into(text: &[u8], index: u32, out: &mut [u32]) -> Result<usize, Refusal> {
     // SAFETY: as above.
     answered(unsafe { library::mfl_statement(text.as_ptr(), text.len(), index, out.as_mut_ptr(), out.len()) })
+}
+
+/// Statement at every index: writes the numbers of all statements, one statement after the other, each behind how many they are, and gives how
+/// many all are. `out` past them is as it was, and all of it on a refusal. Two for each byte of the text are always enough.
+/// [`Mfl::statements`](crate::Mfl::statements) gives the same as trees.
+pub fn statements_into(text: &[u8], out: &mut [u32]) -> Result<usize, Refusal> {
+    // SAFETY: as above.
+    answered(unsafe { library::mfl_statements(text.as_ptr(), text.len(), out.as_mut_ptr(), out.len()) })
 }
 
 /// How many elements Resolve's working buffer has to have.

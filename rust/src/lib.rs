@@ -2,7 +2,7 @@
 //!
 //! [`Mfl`] is a space that was accepted; its statements are a tree with the names of ferx-core's mfl.rs. [`resolve()`] gives it in a
 //! [`ModelContext`], with the names of resolve.rs. What is refused is refused by a number and a place, [`Refusal`]. The calls themselves are
-//! there on slices: [`scan`], [`count`], [`print_into`], [`statement_into`], [`resolve_into`]; they allocate nothing.
+//! there on slices: [`scan`], [`count`], [`print_into`], [`statement_into`], [`statements_into`], [`resolve_into`]; they allocate nothing.
 //!
 //! ```
 //! use dumachik::{Counts, Fault, Feature, Mfl, Statement};
@@ -36,8 +36,8 @@ use std::hash::{Hash, Hasher};
 use std::sync::OnceLock;
 
 pub use calls::{
-    count, print_into, resolve_into, scan, statement_into, Buffers, Effect, Lengths, NoteNumbers, MAX_EFFECTS, MAX_NOTES, STATEMENT_ROOM,
-    WORKING,
+    count, print_into, resolve_into, scan, statement_into, statements_into, Buffers, Effect, Lengths, NoteNumbers, MAX_EFFECTS, MAX_NOTES,
+    STATEMENT_ROOM, WORKING,
 };
 pub use context::{CovariateKind, Handed, ModelContext, PkTemplate};
 pub use refusal::{Fault, Refusal};
@@ -65,11 +65,9 @@ pub fn statement(text: &[u8], index: u32) -> Result<Statement, Refusal> {
 
 /// All statements of a text, in their order.
 pub fn statements(text: &[u8]) -> Result<Vec<Statement>, Refusal> {
-    // A canonical text is never longer than its text. In it `;` stands between statements and nowhere else, and taking each alone spares
-    // reading the whole text for each.
-    let mut out = vec![0; text.len().min(MAX_TEXT)];
-    let length = print_into(text, &mut out)?;
-    out[..length].split(|&byte| byte == b';').filter(|part| !part.is_empty()).map(|part| statement(part, 0)).collect()
+    let mut numbers = vec![0; 2 * text.len().min(MAX_TEXT)];
+    let written = statements_into(text, &mut numbers)?;
+    Ok(numbers::statements_of(&numbers[..written], text))
 }
 
 /// An accepted space: its statements, and the text they were read from. Two spaces are equal exactly where their statements are.

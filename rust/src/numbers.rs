@@ -1,4 +1,4 @@
-//! From the numbers of Statement to the tree; `include/dumachik.h` has their layout.
+//! From the numbers of statements to the tree; `include/dumachik.h` has their layout.
 //!
 //! The layout is proved of the call, so what departs from it is a broken library: that ends in a panic, never in a wrong tree.
 
@@ -16,6 +16,18 @@ pub(crate) fn statement_of(numbers: &[u32], text: &[u8]) -> Statement {
     let statement = numbers.statement();
     assert!(numbers.left.as_slice().is_empty(), "numbers past the statement");
     statement
+}
+
+/// All statements, each behind how many numbers it has.
+pub(crate) fn statements_of(numbers: &[u32], text: &[u8]) -> Vec<Statement> {
+    let mut numbers = Numbers { left: numbers.iter(), text };
+    let mut statements = Vec::new();
+    while let Some(&many) = numbers.left.next() {
+        let left = numbers.left.as_slice().len();
+        statements.push(numbers.statement());
+        assert_eq!(left - numbers.left.as_slice().len(), many as usize, "a statement's numbers are as many as are told");
+    }
+    statements
 }
 
 impl Numbers<'_> {

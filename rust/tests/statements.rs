@@ -98,6 +98,30 @@ fn values_by_kind() {
     assert_eq!(out[..16], [14, 0, 8, 5, 2, 12, 3, 0, 10, 2, 1, 14, 1, 0, 17, 2]);
 }
 
+/// The numbers of all statements are those of each, behind how many they are.
+#[test]
+fn all_at_once() {
+    let text = b"LET(X,[WT,7]);COVARIATE?([CL,V],@X,[lin,exp],+)\n# c\nPERIPHERALS(0..2)";
+    let mut all = vec![0xa5; 2 * text.len()];
+    let written = dumachik::statements_into(text, &mut all).unwrap();
+    let mut wanted = Vec::new();
+    for index in 0..3 {
+        let mut out = [0; STATEMENT_ROOM];
+        let many = dumachik::statement_into(text, index, &mut out).unwrap();
+        wanted.push(many as u32);
+        wanted.extend(&out[..many]);
+    }
+    assert_eq!(all[..written], wanted);
+    assert!(all[written..].iter().all(|&number| number == 0xa5));
+    assert_eq!(dumachik::statements_into(text, &mut all[..written - 1]).unwrap_err().number(), 19);
+    assert_eq!(dumachik::statements_into(text, &mut all[..written]), Ok(written));
+    // one number and one name for every two bytes: the longest answer for its text
+    let names = format!("LET(A,[{}])", vec!["B"; 64].join(","));
+    let text = [names.as_str(); 60].join(";");
+    let mut all = vec![0; 2 * text.len()];
+    assert_eq!(dumachik::statements_into(text.as_bytes(), &mut all), Ok(60 * (1 + 7 + 3 * 64)));
+}
+
 /// The largest answer of Statement fits `STATEMENT_ROOM` exactly.
 #[test]
 fn largest_statement() {

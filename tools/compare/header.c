@@ -41,6 +41,16 @@ static void states(const char *text, uint32_t index, size_t room, uint64_t answe
     check(text, memcmp(out, held, sizeof out) != 0, 0);
 }
 
+/* The same for the numbers of all statements. */
+static void states_all(const char *text, size_t room, uint64_t answer, const uint32_t *wanted) {
+    uint32_t out[64], held[64];
+    memset(out, 0xA5, sizeof out);
+    memset(held, 0xA5, sizeof held);
+    if (answer <= UINT32_MAX) memcpy(held, wanted, answer * sizeof *wanted);
+    check(text, mfl_statements(bytes(text), strlen(text), out, room), answer);
+    check(text, memcmp(out, held, sizeof out) != 0, 0);
+}
+
 /* Document 01's K: parameters CL, V, KA; IIV CL, V; template cl=CL, v=V, ka=KA; WT continuous, SEX categorical. */
 static const char block[] = "CLVKACLVclCLvVkaKAWTSEXWTSEX";
 static const uint32_t lists[] = {3,  2, 3,  2, 2, 1, 1, 0, 2, 2, 1,  3, 2,  5, 2,  7, 1,  8, 2, 10,
@@ -111,6 +121,13 @@ int main(void) {
     states(space, 3, MFL_STATEMENT_ROOM, refusal(20, 3), NULL);
     states("let(x, [1.5, a])", 0, 13, 13, (uint32_t[]){14, 0, 8, 4, 1, 12, 2, 1, 8, 3, 0, 13, 1});
     states("LAGTIME(MAYBE)", 7, MFL_STATEMENT_ROOM, refusal(10, 8), NULL);
+
+    const uint32_t all[] = {10, 14, 0, 8, 4, 1, 12, 1, 0, 7, 2, 16, 5, 1, 7, 2, 24, 2, 27, 1, 6, 31, 1, 1, 2, 0, 2, 11, 6, 2, 0, 3, 0, 2, 9};
+    states_all(space, 64, 35, all);
+    states_all(space, 35, 35, all);
+    states_all(space, 34, refusal(19, 0), NULL);
+    states_all("", 0, 0, all);
+    states_all("LAGTIME(ON);LAGTIME(MAYBE)", 64, refusal(10, 20), NULL);
 
     const char *merged = "COVARIATE(@PK,WT,lin);COVARIATE?(CL,WT,exp);COVARIANCE(IIV,CL)";
     const char *ground = "COVARIATE(V,WT,lin);COVARIATE(KA,WT,lin);COVARIATE?(CL,WT,exp)";
