@@ -13,6 +13,7 @@ ghost use Rattle.forms.specs.Forms.{modesIn, opAs, operandIn, featureIn, statem
 ghost use Rattle.reading.specs.Statement.{Covariate};
 ghost use Rattle.forms.specs.Items.{nameIn};
 ghost use Rattle.parts.specs.Apart.{apart};
+ghost use Rattle.forms.specs.Fits.{InText};
 ghost use Rattle.parts.specs.Meaning.{PartsFit, OperandFits, partsIn};
 ghost use Rattle.writing.specs.Written.{Room, Written};
 ghost use Rattle.render.specs.Text.{jointOf};
@@ -76,7 +77,7 @@ fn put_whole(
 
 // Whether a name is a covariate of the model.
 fn is_covariate(text: &[u8], block: &[u8], lists: &[u32], layout: Layout, name: Name) -> bool
-    requires { ⌜ Stands (now block) (now lists) layout ⌝ }
+    requires { ⌜ Stands (now block) (now lists) layout × InText (now text) name ⌝ }
     ensures { λ r. ⌜ r ≡ isSome (placeIn (sameBytes (nameIn (now (text .entry)) name .spelling))
         (covariates·spec (handedContext (now (block .entry)) (now (lists .entry))))) ⌝ }
 {

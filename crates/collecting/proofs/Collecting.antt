@@ -19,7 +19,7 @@ use Rattle.forms.specs.declared.Feature.{Feature}
 use Rattle.forms.specs.declared.Statement as statements
 use Rattle.forms.specs.declared.Statement.the-variants as form
 use Rattle.forms.specs.Items.{nameIn, itemsIn}
-use Rattle.forms.specs.Fits.{Listed}
+use Rattle.forms.specs.Fits.{InText, Listed}
 use Rattle.forms.specs.Forms.{statementIn}
 use Rattle.parts.specs.Apart.{apart}
 use Rattle.parts.specs.Meaning.{PartsFit}
@@ -199,11 +199,12 @@ module _ {s : List ℕ} {forms : List Form} {count : ℕ} {run : List ℕ} {n i 
             left = told-left false (sym a ∙ b);
           })
 
--- the values of a LET that fits can be read again
-let-listed : (s : List ℕ) (name : Name) (values : Items) → PartsFit s (apart (form.Let name values)) → Listed s values
+-- the name of a LET that fits lies in the text, and its values can be read again
+let-fits : (s : List ℕ) (name : Name) (values : Items) → PartsFit s (apart (form.Let name values)) → InText s name × Listed s values
 unfolding apart
-let-listed s name values p = p .second
+let-fits s name values p = (p .first, p .second)
 
-pub values-listed : (s : List ℕ) (st : statements.Statement) (name : Name) (values : Items) → Fit s st → st ≡ form.Let name values → Listed s values
-values-listed s st name values f e =
-    let-listed s name values (subst (λ (x : statements.Statement). PartsFit s (apart x)) e (statement-fits (f .limit) s st (f .read)))
+pub let-stands :
+    (s : List ℕ) (st : statements.Statement) (name : Name) (values : Items) → Fit s st → st ≡ form.Let name values → InText s name × Listed s values
+let-stands s st name values f e =
+    let-fits s name values (subst (λ (x : statements.Statement). PartsFit s (apart x)) e (statement-fits (f .limit) s st (f .read)))

@@ -8,6 +8,7 @@ ghost use Rattle.reading.specs.Answer.{accepted};
 ghost use Rattle.resolving.specs.Lists.{placeIn, sameBytes};
 ghost use Rattle.resolving.specs.Operands.{held};
 ghost use Rattle.resolving.specs.Handed.{handedContext};
+ghost use Rattle.forms.specs.Fits.{InText};
 ghost use Rattle.parts.specs.Meaning.{OperandFits};
 ghost use Rattle.context.specs.Lists.{namesIn, Sound, Stands, foundAs, covariatesOf};
 ghost use Rattle.symbols.specs.Lets.{LetsFit};
@@ -94,7 +95,7 @@ fn with_index(list: Picked, index: u8) -> Picked
 
 // The place of a name of the text or of the block in a list.
 fn place_of(text: &[u8], block: &[u8], lists: &[u32], of: Of, name: Name, target: Names) -> Found
-    requires { ⌜ Sound (now block) (now lists) target ⌝ }
+    requires { ⌜ Sound (now block) (now lists) target × InText (runOf (now text) (now block) of) name ⌝ }
     ensures { λ r. ⌜ r ≡ foundAs (placeIn (sameBytes (spelledIn (runOf (now (text .entry)) (now (block .entry)) of) name))
         (namesIn (now (block .entry)) (now (lists .entry)) target)) ⌝ }
 {

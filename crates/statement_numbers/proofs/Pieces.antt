@@ -1,29 +1,15 @@
 -- Numbers that are written piece after piece: each piece can be written if all can.
 -- Assumes nothing.
-use mathlib.Core.Path.{_≡_, refl, sym, subst}
-use mathlib.Core.Bool.{Bool, true}
+use mathlib.Core.Path.{_≡_, sym, subst}
+use mathlib.Core.Bool.{true}
 use mathlib.Core.List.{List, [], _∷_, _++_}
 use Prim.Native.Nat.{ℕ, _≤_}
 use borrow.Author.Tests.{leb-true}
-use Rattle.token_laws.specs.Shaped.{all}
-use Rattle.token_laws.proofs.Tests.{and-left, and-right}
+use Rattle.token_laws.proofs.Tests.{and-left}
 use Rattle.writing.specs.Written.{Written}
 use Rattle.writing.proofs.Going.{Going, room-left, room-first}
-use Rattle.reading_laws.proofs.Places.{both}
+use Rattle.reading_laws.proofs.Tests.{all-left, all-right}
 use Rattle.statement_numbers.specs.Ready.{isSmall, Ready}
-
-module _ {A : Type 0} (p : A → Bool) where
-  pub all-before : (xs ys : List A) → all p (xs ++ ys) ≡ true → all p xs ≡ true
-  all-before [] ys e = refl
-  all-before (x ∷ xs) ys e = both (and-left (p x) (all p (xs ++ ys)) e) (all-before xs ys (and-right (p x) (all p (xs ++ ys)) e))
-
-  pub all-behind : (xs ys : List A) → all p (xs ++ ys) ≡ true → all p ys ≡ true
-  all-behind [] ys e = e
-  all-behind (x ∷ xs) ys e = all-behind xs ys (and-right (p x) (all p (xs ++ ys)) e)
-
-  pub all-both : (xs ys : List A) → all p xs ≡ true → all p ys ≡ true → all p (xs ++ ys) ≡ true
-  all-both [] ys e h = h
-  all-both (x ∷ xs) ys e h = both (and-left (p x) (all p xs) e) (all-both xs ys (and-right (p x) (all p xs) e) h)
 
 -- one number
 pub is-small : {at n : ℕ} → Ready at (n ∷ []) → n ≤ 4294967295
@@ -38,10 +24,10 @@ written-same {before} {after = after} {at = at} {r = r} e w = subst (λ (l : Lis
 
 module _ {before : List ℕ} {at : ℕ} {whole now : List ℕ} {next : ℕ} where
   pub ready-left : {left : List ℕ} → Ready at whole → Going before at whole now next left → Ready next left
-  ready-left {left} r g = record { room = room-left (r .room) g; small = all-behind isSmall (g .done) left (rw (g .whole) at (r .small)) }
+  ready-left {left} r g = record { room = room-left (r .room) g; small = all-right isSmall (g .done) left (rw (g .whole) at (r .small)) }
 
   pub ready-first : (bs left : List ℕ) → Ready at whole → Going before at whole now next (bs ++ left) → Ready next bs
   ready-first bs left r g = record {
     room = room-first bs left (r .room) g;
-    small = all-before isSmall bs left (ready-left r g .small);
+    small = all-left isSmall bs left (ready-left r g .small);
   }

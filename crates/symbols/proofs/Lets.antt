@@ -27,7 +27,7 @@ use Rattle.context.specs.Lists.{foundAs}
 use Rattle.context.proofs.Places.{found-at, found-nowhere}
 use Rattle.context.specs.declared.Found.{Found}
 use Rattle.context.specs.declared.Found.the-variants.{Place, Nothing}
-use Rattle.symbols.specs.Lets.{Cut, keyAt, valuesAt, definitionAt, definitionsIn, lastLet, hasKey, LetsFit, LetPut}
+use Rattle.symbols.specs.Lets.{keyAt, valuesAt, definitionAt, definitionsIn, lastLet, hasKey, LetsFit, LetPut}
 
 abbrev isThere : Option ℕ → Bool
 isThere none = false
@@ -217,11 +217,11 @@ module _ (s l : List ℕ) (n : ℕ) (fit : LetsFit s l n) (few : n < 256) (room 
     definitions-before (suc m) h =
         ap₂ (λ (ds : List Definition) (d : Definition). ds ++ d ∷ []) (definitions-before m (omega arith)) (definition-before m h)
 
-    -- where the key and the values are those of a LET, cut to the text
-    pub let-put : (name : Name) (values : Items) → Cut s name key → Listed s items → itemsIn s items ≡ itemsIn s values
-        → LetPut s l withLet n (definition (nameIn s name) (itemsIn s values))
+    -- where the key and the values are those of a LET
+    pub let-put : (values : Items) → InText s key → Listed s items → itemsIn s items ≡ itemsIn s values
+        → LetPut s l withLet n (definition (nameIn s key) (itemsIn s values))
     unfolding definitionsIn
-    let-put name values cut listed same =
+    let-put values inside listed same =
         record {
           size = four-size l (4 * n) _ _ _ _;
           fit =
@@ -239,17 +239,17 @@ module _ (s l : List ℕ) (n : ℕ) (fit : LetsFit s l n) (few : n < 256) (room 
               rw e (four-behind l (4 * n) _ _ _ _ (omega arith));
         }
       where
-        own : definitionAt s withLet n ≡ definition (nameIn s name) (itemsIn s values)
+        own : definitionAt s withLet n ≡ definition (nameIn s key) (itemsIn s values)
         own =
             ap₂
             (λ (w : List ℕ) (is : List Item). record { key = w; values = map (λ i. i .name .spelling) is })
-            (ap (λ (m : Name). nameIn s m .spelling) key-own ∙ cut .spelled)
+            (ap (λ (m : Name). nameIn s m .spelling) key-own)
             (ap (itemsIn s) values-own ∙ same)
 
         keys : (k : ℕ) → k < n + 1 → (t : Bool) → leb n k ≡ t → InText s (keyAt withLet k)
         keys k h true e =
             let own : k ≡ n = omega (arith, leb-true n k e) in
-            subst (λ (j : ℕ). InText s (keyAt withLet j)) (sym own) (subst (InText s) (sym key-own) (cut .inside))
+            subst (λ (j : ℕ). InText s (keyAt withLet j)) (sym own) (subst (InText s) (sym key-own) inside)
         keys k h false e =
             let below : k < n = leb-false n k e in
             subst (InText s) (sym (key-before k below)) (fit .keys k below)

@@ -15,11 +15,6 @@ use Rattle.forms.specs.declared.Items.{Items}
 use Rattle.forms.specs.Items.{nameIn, itemsIn}
 use Rattle.forms.specs.Fits.{InText, Listed}
 
--- a name cut to the bytes that the text has
-pub record Cut (s : List ℕ) (n r : Name) : Type 0 where
-  pub inside : InText s r
-  pub spelled : nameIn s r .spelling ≡ nameIn s n .spelling
-
 module _ (l : List ℕ) where
   abbrev pub keyAt : ℕ → Name
   keyAt k = record { offset = getD l (4 * k) 0; length = getD l (4 * k + 1) 0 }

@@ -19,7 +19,7 @@ ghost use Rattle.resolving.specs.Symbols.{definition, lookUp};
 ghost use Rattle.forms.specs.Items.{nameIn, itemsIn};
 ghost use Rattle.forms.specs.Fits.{InText, Listed};
 ghost use Rattle.context.specs.Lists.{Stands, foundAs, listAt};
-ghost use Rattle.symbols.specs.Lets.{keyAt, valuesAt, definitionAt, definitionsIn, lastLet, hasKey, Cut, LetsFit, LetPut};
+ghost use Rattle.symbols.specs.Lets.{keyAt, valuesAt, definitionAt, definitionsIn, lastLet, hasKey, LetsFit, LetPut};
 ghost use Rattle.symbols.specs.Sources.{roleOf, sourceList, SourceFits, LookedFits, Means, MeansAnywhere};
 ghost use Rattle.symbols.specs.Named.{spellings, Usable, Spells};
 ghost use Rattle.symbols.specs.Brings.{listOf, isIiv, brings, broughtBy, broughtAs, BroughtFits, Yields};
@@ -89,28 +89,18 @@ fn least(a: usize, b: usize) -> usize
     a
 }
 
-// The part of a name that the text has.
-pub fn within(text: &[u8], name: Name) -> Name
-    ensures { λ r. ⌜ Cut (now (text .entry)) name r ⌝ }
-{
-    let offset = least(name.offset, text.len());
-    let length = least(name.length, text.len() - offset);
-    Name { offset, length }
-}
-
 // Puts a LET behind the first n.
 pub fn put_let(text: &[u8], lets: &mut [u32], n: usize, name: Name, values: Items)
     requires { ⌜ LetsFit (now text) (now lets) n × (n < 256) × (4 * (n + 1) ≤ length (now lets))
-        × (length (now text) ≤ 16384) × Listed (now text) values ⌝ }
+        × (length (now text) ≤ 16384) × InText (now text) name × Listed (now text) values ⌝ }
     ensures { λ r. ⌜ LetPut (now (text .entry)) (now (lets .entry)) (now (lets .exit)) n
         (definition (nameIn (now (text .entry)) name) (itemsIn (now (text .entry)) values)) ⌝ }
 {
-    let key = within(text, name);
     let first = values.first;
     let cursor = least(first.at, text.len());
     let at = 4 * n;
-    lets[at] = key.offset as u32;
-    lets[at + 1] = key.length as u32;
+    lets[at] = name.offset as u32;
+    lets[at + 1] = name.length as u32;
     lets[at + 2] = cursor as u32;
     lets[at + 3] = values.count as u32;
 }
@@ -138,13 +128,13 @@ fn values_at(lets: &[u32], k: usize) -> Items
     }
 }
 
-// A name's bytes, as a part of the text: those of them that the text has.
+// A name's bytes, as a part of the text.
 pub fn spelling(text: &[u8], name: Name) -> &[u8]
+    requires { ⌜ InText (now text) name ⌝ }
     ensures { λ r. ⌜ now r ≡ nameIn (now (text .entry)) name .spelling ⌝ }
 {
-    let cut = within(text, name);
-    let start = cut.offset;
-    let end = start + cut.length;
+    let start = name.offset;
+    let end = start + name.length;
     &text[start..end]
 }
 
@@ -165,7 +155,7 @@ fn find_let(text: &[u8], lets: &[u32], n: usize, word: &[u8]) -> Found
 
 // Whether one of the first n LETs has the key, ignoring case.
 pub fn has_let(text: &[u8], lets: &[u32], n: usize, key: Name) -> bool
-    requires { ⌜ LetsFit (now text) (now lets) n ⌝ }
+    requires { ⌜ LetsFit (now text) (now lets) n × InText (now text) key ⌝ }
     ensures { λ r. ⌜ r ≡ hasKey (definitionsIn (now (text .entry)) (now (lets .entry)) n) (nameIn (now (text .entry)) key .spelling) ⌝ }
 {
     match find_let(text, lets, n, spelling(text, key)) {

@@ -40,7 +40,10 @@ module _ (s : tie.Start) {g : forms.Feature} (e : s .args .feature ≡ g) where
   short = subst (Short (now (s .args .text))) e (s .pre .6)
 
 is-covariate-requires : tie.Need-is-covariate-requires
-is-covariate-requires c κs = c .before .before .before .before .before .before .before .before .pre .3
+unfolding apart featureApart
+is-covariate-requires c κs =
+    let s = c .before .before .before .before .before .before .before .before in
+    (s .pre .3, fits s (c .before .feature .given .1) .first)
 
 put-whole-requires : tie.Need-put-whole-requires
 put-whole-requires c κs =

@@ -23,7 +23,7 @@ index-of-requires : tie.Need-index-of-requires
 index-of-requires c κs =
     let v = c .before in
     let s = v .before .before .before .before in
-    rw (v .covariates .ensures) (covariates-sound (now (s .args .block)) (now (s .args .lists)) (s .args .layout) (s .pre))
+    rw (v .covariates .ensures) (covariates-sound (now (s .args .block)) (now (s .args .lists)) (s .args .layout) (s .pre .0))
 
 -- what was looked for
 abbrev place : (s : tie.Start) → Option ℕ
@@ -37,7 +37,7 @@ found-where c =
     let v = p .before in
     let s = v .before .before .before .before in
     c .index-of .ensures
-    ∙ rw (p .spelling .ensures, v .covariates .ensures, covariates-are (now (s .args .block)) (now (s .args .lists)) (s .args .layout) (s .pre)) refl
+    ∙ rw (p .spelling .ensures, v .covariates .ensures, covariates-are (now (s .args .block)) (now (s .args .lists)) (s .args .layout) (s .pre .0)) refl
 
 there : {i : ℕ} (o : Option ℕ) → found.Place i ≡ foundAs o → isSome o ≡ isSome (some i)
 there none e = let z : _≡_ {A = ℕ} 0 1 = cc in absurd (omega arith)

@@ -5,7 +5,9 @@ use Prim.Native.Nat.{_-_, _≤_, _<_}
 use mathlib.Core.Path.{_≡_, refl, _∙_}
 use native.Mathlib.Omega.{arith}
 use lib.ListN.{length}
+use denote.Ref.{now}
 use borrow.Author.Needs.{needs}
+use Rattle.forms.specs.Fits.{InText, Listed}
 use Rattle.collecting.specs.Collected.{CollectedAs}
 use Rattle.collecting.proofs.Collecting.{
   Collecting,
@@ -14,7 +16,7 @@ use Rattle.collecting.proofs.Collecting.{
   feature-passed,
   key-again,
   one-collected,
-  values-listed,
+  let-stands,
 }
 use Rattle.collecting.proofs.collect_lets.Statement.{statement}
 use Rattle.collecting.proofs.collect_lets.Tie as tie
@@ -41,8 +43,19 @@ mul-form c = omega (arith, index-below c)
 array-copy-out-form : tie.Need-array-copy-out-form Inv-loop μ-loop
 array-copy-out-form c = index-below c
 
+-- the LET of a turn, its name and its values
+stands :
+    (x : tie.After-statement Inv-loop μ-loop)
+    → let s = x .before .before .before .before .before .before .before .before in
+    InText (now (s .args .text)) (x .statement .given .0 .0) × Listed (now (s .args .text)) (x .statement .given .0 .1 .0)
+stands x =
+    let t = x .before .before .before in
+    let l = t .before in
+    let s = l .before .before .before .before in
+    let-stands _ _ (x .statement .given .0 .0) (x .statement .given .0 .1 .0) (s .pre .1 _ (l .loop .i) (t .loop-test .taken)) (x .statement .given .1)
+
 has-let-requires : tie.Need-has-let-requires Inv-loop μ-loop
-has-let-requires c κs = c .before .before .before .before .before .before .loop .inv .0 .fit
+has-let-requires c κs = (c .before .before .before .before .before .before .loop .inv .0 .fit, stands (c .before .before) .0)
 
 same-length : tie.Need-same-length Inv-loop μ-loop
 same-length c = c .before .before .before .before .before .before .before .before .loop .inv .1
@@ -69,8 +82,8 @@ put-let-requires c κs =
       below,
       omega (arith, below, l .loop .inv .1, s .pre .2),
       s .pre .3,
-      values-listed _ _ (x .statement .given .0 .0) (x .statement .given .0 .1 .0) (s .pre .1 _ (l .loop .i) (t .loop-test .taken))
-          (x .statement .given .1),
+      stands x .0,
+      stands x .1,
     )
 
 add-n : tie.Need-add-n Inv-loop μ-loop

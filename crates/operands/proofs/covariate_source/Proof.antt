@@ -23,6 +23,12 @@ names s o = covariateNames (now (s .args .text)) (now (s .args .lets)) (s .args 
 abbrev star : Context → Answer (List (List ℕ))
 star c = accepted (covariates c)
 
+spelling-requires : tie.Need-spelling-requires
+spelling-requires c κs =
+    let d = c .before in
+    let s = d .before .before .before .before in
+    subst (OperandFits (now (s .args .text))) (d .operand .given .1) (s .pre .1)
+
 returns : tie.Need-returns
 returns c =
     let s = c .before .before .before .before in
@@ -60,7 +66,7 @@ covariate-source-spec =
     (tie.spec
     (λ c. search needs)
     (λ c. search needs)
-    (λ c κs. tt)
+    spelling-requires
     (λ c κs. c .before .before .before .before .before .before .pre .0)
     (λ c. search needs)
     returns

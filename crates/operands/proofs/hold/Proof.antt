@@ -99,6 +99,12 @@ loop-holds c =
     let s = c .before .before .before .before in
     going-none (entries s) (words s) (c .none-picked .result) (c .none-picked .ensures .0) (c .none-picked .ensures .1)
 
+place-of-requires : tie.Need-place-of-requires Inv-loop μ-loop
+place-of-requires c κs =
+    let t = c .before in
+    let s = start (t .before) in
+    (s .pre .1, s .pre .0 .inside (t .before .loop .i) (t .loop-test .taken))
+
 with-index-requires : tie.Need-with-index-requires Inv-loop μ-loop
 with-index-requires c κs =
     let t = c .before .before .before .before .before in
@@ -142,7 +148,7 @@ hold-spec =
     loop-holds
     (λ c. search needs)
     (λ c. omega (arith, c .loop-test .taken, start (c .before) .pre .0 .few, start (c .before) .pre .0 .size))
-    (λ c κs. start (c .before .before) .pre .1)
+    place-of-requires
     (λ c. search needs)
     (λ c. omega (arith, place-small (c .before)))
     with-index-requires

@@ -25,6 +25,12 @@ module _ (s : tie.Start) where
   abbrev star : Context → Answer (List (List ℕ))
   star c = known (meaningIn (now (s .args .text)) (now (s .args .lets)) (s .args .n) c (now (s .args .star)))
 
+spelling-requires : tie.Need-spelling-requires
+spelling-requires c κs =
+    let d = c .before in
+    let s = d .before .before .before .before .before in
+    subst (OperandFits (now (s .args .text))) (d .operand .given .1) (s .pre .1)
+
 returns : tie.Need-returns
 returns c =
     let s = c .before .before .before .before .before .before in
@@ -63,7 +69,7 @@ parameter-source-spec =
     (λ c. search needs)
     (λ c κs. c .before .before .before .before .before .pre .0)
     (λ c. search needs)
-    (λ c κs. tt)
+    spelling-requires
     (λ c κs. c .before .before .before .before .before .before .before .pre .0)
     (λ c. search needs)
     returns

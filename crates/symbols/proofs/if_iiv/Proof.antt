@@ -1,12 +1,12 @@
 -- `symbols::if_iiv` meets its contract: the name that was brought stands among the IIV parameters, or not. Assumes nothing.
-use mathlib.Core.Path.{ap}
+use mathlib.Core.Path.{ap, subst}
 use borrow.Author.Needs.{needs}
 use denote.Ref.{now}
 use Rattle.resolving.specs.Lists.{keep}
 use Rattle.context.specs.Lists.{namesIn}
 use Rattle.context.proofs.Meaning.{iiv-sound}
 use Rattle.symbols.specs.declared.Brought.{Brought}
-use Rattle.symbols.specs.Brings.{isIiv, broughtAs}
+use Rattle.symbols.specs.Brings.{isIiv, broughtAs, BroughtFits}
 use Rattle.symbols.proofs.Brings.{yields-nothing, if-there, if-absent}
 use Rattle.symbols.proofs.if_iiv.Statement.{statement}
 use Rattle.symbols.proofs.if_iiv.Tie as tie
@@ -16,6 +16,12 @@ returns c =
     let a = c .before .before .before .before .args in
     yields-nothing
     (ap (λ (x : Brought). keep (isIiv (now (a .block)) (now (a .lists)) (a .layout)) (broughtAs (now (a .block)) x)) (c .enum-told .given .1))
+
+spelling-requires : tie.Need-spelling-requires
+spelling-requires c κs =
+    let b = c .before in
+    let s = b .before .before .before .before in
+    subst (BroughtFits (now (s .args .block))) (b .brought .given .1) (s .pre .1)
 
 index-of-requires : tie.Need-index-of-requires
 index-of-requires c κs = iiv-sound _ _ _ (c .before .before .before .before .before .before .pre .0)
@@ -44,7 +50,7 @@ if-iiv-spec =
     (λ c. search needs)
     (λ c. search needs)
     returns
-    (λ c κs. search needs)
+    spelling-requires
     index-of-requires
     (λ c. search needs)
     (λ c. search needs)

@@ -1,17 +1,16 @@
--- `symbols::spelling` meets its contract: what is cut to the text spells the name. Assumes nothing.
+-- `symbols::spelling` meets its contract: the part is as long as the name. Assumes nothing.
 use native.Mathlib.Nat.{add-sub-cancel-left}
 use borrow.Author.Needs.{needs}
 use Rattle.symbols.proofs.spelling.Statement.{statement}
 use Rattle.symbols.proofs.spelling.Tie as tie
 
 returns : tie.Need-returns
-returns c = rw add-sub-cancel-left (c .before .before .within .ensures .spelled)
+returns c = rw add-sub-cancel-left
 
 pub spelling-spec : {M : Type 1} → statement M
 spelling-spec =
     tie.close
     (tie.spec
-    (λ c κs. search needs)
     (λ c. search needs)
     (λ c. search needs)
     (λ c. search needs)
