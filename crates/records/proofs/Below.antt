@@ -1,6 +1,6 @@
 -- What Resolve gives and the place of what it refuses are small enough for its word: full size always suffices, and no place is above 16,384.
 -- Assumes nothing.
-use Prim.Native.Nat.{ℕ, _≤_, _<_}
+use Prim.Native.Nat.{ℕ}
 use native.Mathlib.Omega.{arith}
 use mathlib.Core.Path.{_≡_, refl}
 use mathlib.Core.Bool.{Bool, true, false, cond, _||_}

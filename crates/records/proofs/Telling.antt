@@ -1,6 +1,5 @@
 -- The number of effects can be told from the word of an answer: it is that of the answer, and 0 of a refusal.
 -- Assumes nothing.
-use Prim.Native.Nat.{ℕ, _+_, _*_, _/_, _%_, _≤_, _<_}
 use native.Mathlib.Omega.{arith}
 use mathlib.Core.Path.{_≡_}
 use Rattle.reading.specs.Answer.{Answer, accepted, refused}
