@@ -1,9 +1,9 @@
--- `mfl::place::line_of` is safe and ends. The measure is how much of the text is left. Assumes nothing.
+-- `places::line_of` is safe and ends. The measure is how much of the text is left. Assumes nothing.
 use Prim.Native.Nat.{_+_, _-_, _≤_}
 use lib.ListN.{length}
 use native.Mathlib.Omega.{arith}
-use Rattle.mfl.proofs.place.line_of.Statement.{statement}
-use Rattle.mfl.proofs.place.line_of.Tie as tie
+use Rattle.places.proofs.line_of.Statement.{statement}
+use Rattle.places.proofs.line_of.Tie as tie
 
 abbrev Inv-loop : tie.InvT-loop
 Inv-loop text offset line₀ i₀ line i = line ≤ i + 1

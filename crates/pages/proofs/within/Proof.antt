@@ -1,8 +1,8 @@
--- `mfl::within` meets its contract: the smaller of two numbers counts bytes. Assumes nothing.
+-- `pages::within` meets its contract: the smaller of two numbers counts bytes. Assumes nothing.
 use Rattle.io.proofs.Counting.{counts}
 use native.Mathlib.Omega.{arith}
-use Rattle.mfl.proofs.within.Statement.{statement}
-use Rattle.mfl.proofs.within.Tie as tie
+use Rattle.pages.proofs.within.Statement.{statement}
+use Rattle.pages.proofs.within.Tie as tie
 
 returns : tie.Need-returns
 returns c = counts _ _ (omega arith)
