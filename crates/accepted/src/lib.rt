@@ -5,6 +5,7 @@ mod tables;
 use labels::Family;
 pub use tables::put_keyword;
 pub use tables::put_keywords;
+pub use tables::put_label;
 pub use tables::put_modes;
 
 // What an argument must be.

@@ -7,14 +7,14 @@ struct Listed {
     there: bool,
 }
 
-// The label at a place of its family, behind those before it.
-fn put_mode(page: &mut [u8], len: usize, family: Family, place: usize) -> Listed {
+// The label at a place of its family, behind so many others.
+fn put_mode(page: &mut [u8], len: usize, family: Family, place: usize, before: usize) -> Listed {
     let table = labels::LABELS;
     let label = labels::mode_label(&table, family, place);
     if label.len() == 0 {
         return Listed { len, there: false };
     }
-    let n = pages::put_joint(page, len, place, b", ");
+    let n = pages::put_joint(page, len, before, b", ");
     let m = pages::put_all(page, n, label);
     Listed {
         len: m,
@@ -22,12 +22,18 @@ fn put_mode(page: &mut [u8], len: usize, family: Family, place: usize) -> Listed
     }
 }
 
+// The label at a place of its family.
+pub fn put_label(page: &mut [u8], len: usize, family: Family, place: usize) -> usize {
+    let put = put_mode(page, len, family, place, 0);
+    put.len
+}
+
 // The labels of a family. None has more than 16.
 pub fn put_modes(page: &mut [u8], len: usize, family: Family) -> usize {
     let mut n = len;
     let mut place = 0;
     while place < 16 {
-        let put = put_mode(page, n, family, place);
+        let put = put_mode(page, n, family, place, place);
         if !put.there {
             return n;
         }

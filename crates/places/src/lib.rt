@@ -49,7 +49,7 @@ pub fn line_start(text: &[u8], offset: usize) -> usize
 }
 
 // The offset behind a line's last byte.
-fn line_end(text: &[u8], offset: usize) -> usize {
+pub fn line_end(text: &[u8], offset: usize) -> usize {
     let mut at = offset;
     while at < text.len() {
         if text[at] == b'\n' {

@@ -193,3 +193,56 @@ pub fn keyword_at(text: &[u8], start: usize, end: usize) -> usize {
         Found::Nothing => 15,
     }
 }
+
+// The offset at which an argument of a statement starts, by the statement's own start and the argument's place from 0.
+pub fn argument_start(text: &[u8], start: usize, argument: usize) -> usize {
+    let mut scene = fresh(0);
+    let mut at = start;
+    while at < text.len() {
+        let token = token_at(text, at);
+        let next = token.next;
+        if scene.inside == ARGUMENTS {
+            if scene.commas == argument {
+                return token.start;
+            }
+        }
+        if next.at <= at {
+            return text.len();
+        }
+        scene = behind(scene, token);
+        at = next.at;
+    }
+    text.len()
+}
+
+// Whether a token ends an argument that starts at an offset: its array, if it is one, is closed by a `]`.
+fn ends_argument(kind: u8, array: bool) -> bool {
+    if array {
+        return false;
+    }
+    if kind == b',' {
+        return true;
+    }
+    kind == b')'
+}
+
+// The offset behind the last token of the argument that starts at an offset.
+pub fn argument_end(text: &[u8], from: usize) -> usize {
+    let mut scene = fresh(0);
+    let mut end = from;
+    let mut at = from;
+    while at < text.len() {
+        let token = token_at(text, at);
+        let next = token.next;
+        if ends_argument(token.kind, scene.inside == ARRAY) {
+            return end;
+        }
+        if next.at <= at {
+            return end;
+        }
+        scene = behind(scene, token);
+        at = next.at;
+        end = next.at;
+    }
+    end
+}
