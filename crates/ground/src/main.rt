@@ -1,0 +1,205 @@
+// Resolves a search space in the context of a model: reads the context from a file, the text from a file or from standard input, and writes
+// the ground text and a newline, or `refused`, the fault's number and its place. A word asks for the effects or for the notes as lines. Where
+// the text is refused a person also gets the cause on standard error, and where it is not, the notes.
+mod asked;
+
+use asked::Asked;
+use context_file::Taken;
+use forms::Refusal;
+use input::Got;
+use resolve::Lengths;
+use resolve::Resolved;
+
+// The message for a person: what is wrong with the context has its file's name before it.
+fn explain(
+    page: &mut [u8],
+    text: &[u8],
+    block: &[u8],
+    lists: &[u32],
+    path: &[u8],
+    file: &[u8],
+    refusal: Refusal,
+) {
+    let a = pages::put_all(page, 0, b"ground: ");
+    if refusal.number == resolve::WRONG_CONTEXT {
+        let b = pages::put_all(page, a, path);
+        let c = pages::put_all(page, b, b": ");
+        let d = context_messages::put_wrong(page, c, block, lists, file);
+        return input::write_message(page, d);
+    }
+    let b = ground_messages::put_fault(page, a, text, block, lists, refusal.number, refusal.place);
+    input::write_message(page, b)
+}
+
+// The ground text and a newline.
+fn write_ground(page: &mut [u8], ground: &[u8], length: usize) {
+    let a = pages::put_part(page, 0, ground, 0, length);
+    let b = pages::put(page, a, b'\n');
+    input::write_page(b"ground: ", page, b)
+}
+
+// The notes, for a person.
+fn tell_notes(page: &mut [u8], text: &[u8], notes: &[[u8; 2]], count: usize) {
+    let n = answer_lines::put_notes(page, 0, text, notes, count, b"ground: note: ");
+    input::write_message(page, n)
+}
+
+// What was asked for.
+fn write_asked(
+    page: &mut [u8],
+    asked: Asked,
+    text: &[u8],
+    block: &[u8],
+    lists: &[u32],
+    ground: &[u8],
+    effects: &[[u8; 5]],
+    notes: &[[u8; 2]],
+    lengths: Lengths,
+) {
+    match asked {
+        Asked::Notes => {
+            let n = answer_lines::put_notes(page, 0, text, notes, lengths.notes, b"");
+            input::write_page(b"ground: ", page, n)
+        }
+        Asked::Effects => {
+            let n = answer_lines::put_effects(page, 0, block, lists, effects, lengths.effects);
+            input::write_page(b"ground: ", page, n);
+            tell_notes(page, text, notes, lengths.notes)
+        }
+        _ => {
+            write_ground(page, ground, lengths.ground);
+            tell_notes(page, text, notes, lengths.notes)
+        }
+    }
+}
+
+// The answer about a text in a context. The page has room for 2,048 effects and 257 notes in words, which is more than anything else has.
+fn answer(asked: Asked, text: &[u8], block: &[u8], lists: &[u32], path: &[u8], file: &[u8]) {
+    let mut page = [0; 262144];
+    let mut ground = io::large_buffer();
+    let mut effects = [[0; 5]; 2048];
+    let mut notes = [[0; 2]; 512];
+    let mut work = [0; 8192];
+    match resolve::resolve(
+        text,
+        block,
+        lists,
+        &mut ground,
+        &mut effects,
+        &mut notes,
+        &mut work,
+    ) {
+        Resolved::Refused(refusal) => {
+            let n = pages::put_refused(&mut page, refusal.number, refusal.place);
+            input::write_page(b"ground: ", &page, n);
+            explain(&mut page, text, block, lists, path, file, refusal)
+        }
+        Resolved::Lengths(lengths) => write_asked(
+            &mut page,
+            asked,
+            text,
+            block,
+            lists,
+            &ground,
+            &effects,
+            &notes,
+            lengths,
+        ),
+    }
+}
+
+// A context file that is malformed.
+fn tell_malformed(path: &[u8], file: &[u8], taken: Taken) {
+    let mut page = io::large_buffer();
+    let a = pages::put_all(&mut page, 0, b"ground: ");
+    let b = pages::put_all(&mut page, a, path);
+    let c = pages::put_all(&mut page, b, b": ");
+    let d = context_messages::put_malformed(&mut page, c, file, taken.cause, taken.place);
+    input::write_message(&page, d)
+}
+
+// The answer about a text, where the context's file was read.
+fn answer_context(asked: Asked, text: &[u8], path: &[u8], file: &[u8]) {
+    let mut block = io::large_buffer();
+    let mut run = [0; 66000];
+    let taken = context_file::read_context(file, &mut block, &mut run);
+    if taken.cause != context_file::FINE {
+        return tell_malformed(path, file, taken);
+    }
+    let bytes = pages::within(taken.bytes, &block);
+    let numbers = effect_lines::within::numbers(taken.numbers, &run);
+    answer(asked, text, &block[..bytes], &run[..numbers], path, file)
+}
+
+// A file that fills its buffer may go on beyond it.
+fn answer_file(asked: Asked, text: &[u8], path: &[u8], file: &[u8], length: usize) {
+    if file.len() <= length {
+        io::write_all(2, b"ground: ");
+        io::write_all(2, path);
+        io::write_all(2, b": more than 65535 bytes, the most of a context file\n");
+        return;
+    }
+    let n = pages::within(length, file);
+    answer_context(asked, text, path, &file[..n])
+}
+
+// Where the text was read: its bytes, in the context of a file.
+fn answer_text(asked: Asked, text: &[u8], got: Got, path: &[u8], file: &[u8], length: usize) {
+    match got {
+        Got::Failed => {}
+        Got::Bytes(n) => {
+            let whole = pages::within(n, text);
+            answer_file(asked, &text[..whole], path, file, length)
+        }
+    }
+}
+
+// The text from the file that an argument names, or from standard input where there is none.
+fn read_text(index: usize, count: usize, name: &mut [u8], text: &mut [u8]) -> Got {
+    if count <= index {
+        return input::read_input(b"ground: ", text);
+    }
+    match input::argument(b"ground: ", index, name) {
+        Got::Failed => Got::Failed,
+        Got::Bytes(n) => {
+            let whole = pages::within(n, name);
+            input::read_file(b"ground: ", &name[..whole], text)
+        }
+    }
+}
+
+// The context's file, whose name is there, and then the text.
+fn answer_named(asked: Asked, path: &[u8], index: usize, count: usize) {
+    let mut name = io::buffer();
+    let mut file = io::large_buffer();
+    let mut text = io::large_buffer();
+    match input::read_file(b"ground: ", path, &mut file) {
+        Got::Failed => {}
+        Got::Bytes(n) => {
+            let got = read_text(index, count, &mut name, &mut text);
+            answer_text(asked, &text, got, path, &file, n)
+        }
+    }
+}
+
+// The name of the context's file is the argument at an index; at the next one the text's may follow.
+fn answer_arguments(asked: Asked, index: usize, next: usize, count: usize, name: &mut [u8]) {
+    match input::argument(b"ground: ", index, name) {
+        Got::Failed => {}
+        Got::Bytes(n) => {
+            let whole = pages::within(n, name);
+            answer_named(asked, &name[..whole], next, count)
+        }
+    }
+}
+
+fn main() {
+    let mut name = io::buffer();
+    let count = os::arg_count();
+    let asked = asked::asked_for(count, &mut name);
+    match asked {
+        Asked::Nothing => asked::usage(),
+        Asked::Ground => answer_arguments(asked, 1, 2, count, &mut name),
+        _ => answer_arguments(asked, 2, 3, count, &mut name),
+    }
+}
