@@ -5,7 +5,8 @@
  * UTF-8, and bytes of 128 and more may stand only in a comment. No output may overlap another or an input. Where a length is 0 its pointer is
  * not read, but must not be null.
  *
- * Limits: 16,384 bytes of text, 256 statements, 64 entries of an array, 64 for a count.
+ * Limits: 16,384 bytes of text, 256 statements, 64 entries of an array, 64 for a count. The stack that a call takes at most, whatever it is given
+ * (docs/BENCHMARKS.md): mfl_resolve STACK_R bytes, mfl_statements STACK_S, mfl_print STACK_P, the others under 4 KiB.
  *
  * Bits 32 to 39 of an answer are a refusal's number, and 0 where nothing is refused; bits 0 to 31 are then its place. Places are counted from
  * zero in bytes of the text unless said otherwise.
@@ -52,6 +53,9 @@ extern "C" {
 
 /* mfl_statement never writes more numbers (proved). COVARIATE with two lists of 64 names and all seven effects has as many. */
 #define MFL_STATEMENT_ROOM 272
+
+/* mfl_statements never writes more numbers for a text of so many bytes (proved). */
+#define MFL_STATEMENTS_ROOM(length) (2 * (length))
 
 /* A refusal's number, 0 where the answer is none; and its place. */
 #define MFL_REFUSAL(answer) ((uint32_t)((answer) >> 32) & 0xff)

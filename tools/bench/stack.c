@@ -14,7 +14,7 @@
 #define MARGIN 320
 
 static uint8_t text[MFL_TEXT_LIMIT + 1], out[MFL_TEXT_LIMIT];
-static uint32_t numbers[MFL_STATEMENT_ROOM];
+static uint32_t numbers[MFL_STATEMENTS_ROOM(MFL_TEXT_LIMIT)];
 static size_t length, room;
 static uint32_t index_asked;
 static uint8_t *stack;
@@ -24,6 +24,23 @@ static void scan(void) { mfl_scan(text, length); }
 static void count(void) { mfl_count(text, length); }
 static void print(void) { mfl_print(text, length, out, room); }
 static void statement(void) { mfl_statement(text, length, index_asked, numbers, MFL_STATEMENT_ROOM); }
+
+static void statements(void) { mfl_statements(text, length, numbers, room); }
+
+/* Resolve in a context that has the names of the texts: parameters CL, V, KA, MAT, B-1, 1.5; IIV CL, V; template cl=CL, ka=KA; covariates WT, AGE
+ * continuous, SEX, B categorical; columns WT. */
+static const char block[] = "CLVKAMATB-11.5CLVclCLkaKAWTAGESEXBWT";
+static const uint32_t lists[] = {6, 2, 2, 4, 1, 1, 1,  0,  2, 2, 1,  3,  2, 5,  3,  8, 3,  11, 3, 14, 2, 16, 1,
+                                 17, 2, 19, 2, 21, 2, 23, 2, 25, 2, 0, 27, 3, 0, 30, 3, 1, 33, 1, 1, 34, 2};
+static struct mfl_effect effects[MFL_EFFECT_ROOM];
+static struct mfl_note notes[MFL_NOTE_ROOM];
+static uint32_t work[MFL_WORKING];
+static uint64_t resolved;
+
+static void resolve(void) {
+    resolved = mfl_resolve(text, length, (const uint8_t *)block, sizeof block - 1, lists, sizeof lists / sizeof *lists, out, MFL_GROUND_ROOM, effects,
+                           MFL_EFFECT_ROOM, notes, MFL_NOTE_ROOM, work, MFL_WORKING);
+}
 
 static void *measured(void *call) {
     uint8_t *here = (uint8_t *)__builtin_frame_address(0);
@@ -48,7 +65,7 @@ static size_t deep(void (*call)(void)) {
     return depth;
 }
 
-static size_t most[4];
+static size_t most[6];
 
 static void more(size_t call, void (*made)(void)) {
     size_t found = deep(made);
@@ -63,6 +80,10 @@ static void all(void) {
     room = length <= MFL_TEXT_LIMIT ? length : MFL_TEXT_LIMIT;
     more(2, print);
     for (index_asked = 0; index_asked < 300; index_asked += index_asked < 20 ? 1 : 59) more(3, statement);
+    for (room = 0; room <= MFL_STATEMENTS_ROOM(MFL_TEXT_LIMIT); room = room * 2 + 1) more(4, statements);
+    room = MFL_STATEMENTS_ROOM(MFL_TEXT_LIMIT);
+    more(4, statements);
+    more(5, resolve);
 }
 
 static void of(const char *words) {
@@ -113,7 +134,14 @@ int main(void) {
     filled(" \n;", MFL_TEXT_LIMIT);
     filled(" ", MFL_TEXT_LIMIT + 1);
 
-    const char *names[] = {"mfl_scan", "mfl_count", "mfl_print", "mfl_statement"};
-    for (int call = 0; call < 4; call++) printf("| `%s` | %zu |\n", names[call], most[call]);
+    /* what is resolved: symbols, LETs, `*`, groups, what is dropped, what is forced twice */
+    of("LET(X,[WT,AGE]);COVARIATE?(@PK,@X,[lin,exp]);COVARIATE?(*,*,*);COVARIATE(CL,SEX,cat,+);IIV(*,*);IOV?(@IIV,EXP);COVARIANCE(*,@PK_IIV);ALLOMETRY(WT)");
+    if (MFL_REFUSAL(resolved)) return printf("not resolved: %u\n", MFL_REFUSAL(resolved)), 1;
+    of("COVARIATE(CL,WT,lin);COVARIATE(CL,WT,exp)");
+    of("COVARIATE(@PD,WT,lin);IIV(@ABSORPTION,*);COVARIATE?([CL,V],[WT,AGE],*,+)");
+    filled("COVARIATE?(@PK,@CONTINUOUS,*);", 80 * 30);
+
+    const char *names[] = {"mfl_scan", "mfl_count", "mfl_print", "mfl_statement", "mfl_statements", "mfl_resolve"};
+    for (int call = 0; call < 6; call++) printf("| `%s` | %zu |\n", names[call], most[call]);
     return 0;
 }
