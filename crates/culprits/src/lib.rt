@@ -70,6 +70,9 @@ pub fn refused_of(
     number: u8,
 ) -> Operand {
     let first = operand_places::first_of(text, start);
+    if !operand_places::has_covariates(text, start) {
+        return first;
+    }
     if is_refused(probe, lets, text, first, block, lists, number) {
         return first;
     }

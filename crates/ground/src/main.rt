@@ -1,13 +1,11 @@
 // Resolves a search space in the context of a model: reads the context from a file, the text from a file or from standard input, and writes
 // the ground text and a newline, or `refused`, the fault's number and its place. A word asks for the effects or for the notes as lines. Where
 // the text is refused a person also gets the cause on standard error, and where it is not, the notes.
-mod asked;
-
-use asked::Asked;
-use context_file::Taken;
 use forms::Refusal;
+use ground_files::Sizes;
+use ground_files::asked;
+use ground_files::asked::Asked;
 use input::Got;
-use resolve::Lengths;
 use resolve::Resolved;
 
 // The message for a person: what is wrong with the context has its file's name before it.
@@ -31,48 +29,6 @@ fn explain(
     input::write_message(page, b)
 }
 
-// The ground text and a newline.
-fn write_ground(page: &mut [u8], ground: &[u8], length: usize) {
-    let a = pages::put_part(page, 0, ground, 0, length);
-    let b = pages::put(page, a, b'\n');
-    input::write_page(b"ground: ", page, b)
-}
-
-// The notes, for a person.
-fn tell_notes(page: &mut [u8], text: &[u8], notes: &[[u8; 2]], count: usize) {
-    let n = answer_lines::put_notes(page, 0, text, notes, count, b"ground: note: ");
-    input::write_message(page, n)
-}
-
-// What was asked for.
-fn write_asked(
-    page: &mut [u8],
-    asked: Asked,
-    text: &[u8],
-    block: &[u8],
-    lists: &[u32],
-    ground: &[u8],
-    effects: &[[u8; 5]],
-    notes: &[[u8; 2]],
-    lengths: Lengths,
-) {
-    match asked {
-        Asked::Notes => {
-            let n = answer_lines::put_notes(page, 0, text, notes, lengths.notes, b"");
-            input::write_page(b"ground: ", page, n)
-        }
-        Asked::Effects => {
-            let n = answer_lines::put_effects(page, 0, block, lists, effects, lengths.effects);
-            input::write_page(b"ground: ", page, n);
-            tell_notes(page, text, notes, lengths.notes)
-        }
-        _ => {
-            write_ground(page, ground, lengths.ground);
-            tell_notes(page, text, notes, lengths.notes)
-        }
-    }
-}
-
 // The answer about a text in a context. The page has room for 2,048 effects and 257 notes in words, which is more than anything else has.
 fn answer(asked: Asked, text: &[u8], block: &[u8], lists: &[u32], path: &[u8], file: &[u8]) {
     let mut page = [0; 262144];
@@ -94,7 +50,7 @@ fn answer(asked: Asked, text: &[u8], block: &[u8], lists: &[u32], path: &[u8], f
             input::write_page(b"ground: ", &page, n);
             explain(&mut page, text, block, lists, path, file, refusal)
         }
-        Resolved::Lengths(lengths) => write_asked(
+        Resolved::Lengths(lengths) => ground_files::write_asked(
             &mut page,
             asked,
             text,
@@ -103,19 +59,13 @@ fn answer(asked: Asked, text: &[u8], block: &[u8], lists: &[u32], path: &[u8], f
             &ground,
             &effects,
             &notes,
-            lengths,
+            Sizes {
+                ground: lengths.ground,
+                effects: lengths.effects,
+                notes: lengths.notes,
+            },
         ),
     }
-}
-
-// A context file that is malformed.
-fn tell_malformed(path: &[u8], file: &[u8], taken: Taken) {
-    let mut page = io::large_buffer();
-    let a = pages::put_all(&mut page, 0, b"ground: ");
-    let b = pages::put_all(&mut page, a, path);
-    let c = pages::put_all(&mut page, b, b": ");
-    let d = context_messages::put_malformed(&mut page, c, file, taken.cause, taken.place);
-    input::write_message(&page, d)
 }
 
 // The answer about a text, where the context's file was read.
@@ -124,7 +74,7 @@ fn answer_context(asked: Asked, text: &[u8], path: &[u8], file: &[u8]) {
     let mut run = [0; 66000];
     let taken = context_file::read_context(file, &mut block, &mut run);
     if taken.cause != context_file::FINE {
-        return tell_malformed(path, file, taken);
+        return ground_files::tell_malformed(path, file, taken);
     }
     let bytes = pages::within(taken.bytes, &block);
     let numbers = effect_lines::within::numbers(taken.numbers, &run);
@@ -154,20 +104,6 @@ fn answer_text(asked: Asked, text: &[u8], got: Got, path: &[u8], file: &[u8], le
     }
 }
 
-// The text from the file that an argument names, or from standard input where there is none.
-fn read_text(index: usize, count: usize, name: &mut [u8], text: &mut [u8]) -> Got {
-    if count <= index {
-        return input::read_input(b"ground: ", text);
-    }
-    match input::argument(b"ground: ", index, name) {
-        Got::Failed => Got::Failed,
-        Got::Bytes(n) => {
-            let whole = pages::within(n, name);
-            input::read_file(b"ground: ", &name[..whole], text)
-        }
-    }
-}
-
 // The context's file, whose name is there, and then the text.
 fn answer_named(asked: Asked, path: &[u8], index: usize, count: usize) {
     let mut name = io::buffer();
@@ -176,7 +112,7 @@ fn answer_named(asked: Asked, path: &[u8], index: usize, count: usize) {
     match input::read_file(b"ground: ", path, &mut file) {
         Got::Failed => {}
         Got::Bytes(n) => {
-            let got = read_text(index, count, &mut name, &mut text);
+            let got = ground_files::read_text(index, count, &mut name, &mut text);
             answer_text(asked, &text, got, path, &file, n)
         }
     }

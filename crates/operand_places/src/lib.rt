@@ -39,6 +39,11 @@ pub fn first_of(text: &[u8], start: usize) -> Operand {
     }
 }
 
+// Whether a statement has a second operand: it is a COVARIATE.
+pub fn has_covariates(text: &[u8], start: usize) -> bool {
+    keyword_at(text, start) == 5
+}
+
 // The covariates of a COVARIATE.
 pub fn covariates_of(text: &[u8], start: usize) -> Operand {
     operand_at(text, start, 1, true, false)

@@ -79,17 +79,6 @@ pub fn put_joint(page: &mut [u8], len: usize, before: usize, joint: &[u8]) -> us
     put_all(page, len, joint)
 }
 
-// `one thing`, `2 things`.
-pub fn put_many(page: &mut [u8], len: usize, number: usize, thing: &[u8]) -> usize {
-    let n = put_number(page, len, number);
-    let m = put(page, n, b' ');
-    let k = put_all(page, m, thing);
-    if number == 1 {
-        return k;
-    }
-    put(page, k, b's')
-}
-
 // One or the other.
 pub fn put_either(page: &mut [u8], len: usize, test: bool, yes: &[u8], no: &[u8]) -> usize {
     if test {

@@ -100,6 +100,13 @@ pub fn put_hint(page: &mut [u8], len: usize, text: &[u8], place: usize) -> usize
     if token.kind != b';' {
         return len;
     }
+    if text.len() <= token.start {
+        return len;
+    }
+    let at = token.start;
+    if text[at] == b';' {
+        return len;
+    }
     pages::put_all(
         page,
         len,
