@@ -6,7 +6,7 @@
  * not read, but must not be null.
  *
  * Limits: 16,384 bytes of text, 256 statements, 64 entries of an array, 64 for a count. The stack that a call takes at most, whatever it is given
- * (docs/BENCHMARKS.md): mfl_resolve STACK_R bytes, mfl_statements STACK_S, mfl_print STACK_P, the others under 4 KiB.
+ * (docs/BENCHMARKS.md): mfl_resolve 93,256 bytes, mfl_statements 43,512, mfl_print 25,656, the others under 4 KiB.
  *
  * Bits 32 to 39 of an answer are a refusal's number, and 0 where nothing is refused; bits 0 to 31 are then its place. Places are counted from
  * zero in bytes of the text unless said otherwise.
