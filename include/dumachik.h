@@ -5,8 +5,12 @@
  * UTF-8, and bytes of 128 and more may stand only in a comment. No output may overlap another or an input. Where a length is 0 its pointer is
  * not read, but must not be null.
  *
- * Limits: 16,384 bytes of text, 256 statements, 64 entries of an array, 64 for a count. The stack that a call takes at most, whatever it is given
- * (docs/BENCHMARKS.md): mfl_resolve 93,256 bytes, mfl_statements 43,512, mfl_print 25,656, the others under 4 KiB.
+ * Limits: 16,384 bytes of text, 256 statements, 64 entries of an array. The stack that a call takes at most, whatever it is given
+ * (docs/BENCHMARKS.md): mfl_resolve 93,256 bytes, mfl_statements 43,560, mfl_print 25,720, the others under 4 KiB.
+ *
+ * Every call that reads statements takes a ceiling, last: the largest count that a text may have, from 0 to 256. Held to it are single counts,
+ * both ends of a range wherever one stands, and the entries of an array of counts; not names that are numbers, and not ALLOMETRY's reference.
+ * MFL_CEILING is the source's limit. A canonical text and a ground text are read again under the ceiling that they were made with.
  *
  * Bits 32 to 39 of an answer are a refusal's number, and 0 where nothing is refused; bits 0 to 31 are then its place. Places are counted from
  * zero in bytes of the text unless said otherwise.
@@ -14,7 +18,7 @@
  *   1   text over 16,384 bytes                                            0
  *   2   byte that starts no token                                         its offset
  *   3   token not allowed, or end of text                                 its offset, or the text's length
- *   4   count not a whole 32-bit number, or above the limit               the number's offset
+ *   4   count not a whole 32-bit number, or above the ceiling             the number's offset
  *   5   range backwards                                                   the left number's offset
  *   6   unknown keyword                                                   the keyword's offset
  *   7   `?` on a feature without it                                       the keyword's offset
@@ -35,6 +39,7 @@
  *   19  an output shorter than its answer; a working buffer that is
  *       too short                                                         0
  *   20  statement index not below the count                               the index
+ *   21  ceiling above 256; before 1                                       0
  */
 #ifndef DUMACHIK_H
 #define DUMACHIK_H
@@ -49,7 +54,10 @@ extern "C" {
 #define MFL_TEXT_LIMIT 16384
 #define MFL_STATEMENT_LIMIT 256
 #define MFL_ENTRY_LIMIT 64
-#define MFL_COUNT_LIMIT 64
+#define MFL_CEILING_LIMIT 256
+
+/* The ceiling of the source, and of the programs. */
+#define MFL_CEILING 64
 
 /* mfl_statement never writes more numbers (proved). COVARIATE with two lists of 64 names and all seven effects has as many. */
 #define MFL_STATEMENT_ROOM 272
@@ -76,11 +84,11 @@ extern "C" {
 size_t mfl_scan(const uint8_t *text, size_t length);
 
 /* Count: the number of statements of a text. */
-uint64_t mfl_count(const uint8_t *text, size_t length);
+uint64_t mfl_count(const uint8_t *text, size_t length, uint32_t ceiling);
 
 /* Print: the canonical text's bytes in `out`, and their number. `out` past them is as it was, and all of it where Print refuses, by 19 where
  * `room` is shorter than the canonical text. That is never longer than its text, so `room` = `length` always has room. */
-uint64_t mfl_print(const uint8_t *text, size_t length, uint8_t *out, size_t room);
+uint64_t mfl_print(const uint8_t *text, size_t length, uint8_t *out, size_t room, uint32_t ceiling);
 
 /* Statement: the statement at an index, from zero, as 32-bit numbers in `out`, and how many. `out` past them is as it was, and all of it
  * where Statement refuses, by 20 where the index is not below the count, by 19 where `room` is shorter than the answer.
@@ -119,12 +127,12 @@ uint64_t mfl_print(const uint8_t *text, size_t length, uint8_t *out, size_t room
  *   IIV, IOV                                      EXP ADD PROP LOG RE_LOG
  *   COVARIANCE                                    IIV IOV
  */
-uint64_t mfl_statement(const uint8_t *text, size_t length, uint32_t index, uint32_t *out, size_t room);
+uint64_t mfl_statement(const uint8_t *text, size_t length, uint32_t index, uint32_t *out, size_t room, uint32_t ceiling);
 
 /* Statement at every index, in one reading of the text: the numbers of all statements, one statement after the other, those of each behind how
  * many they are, and how many all are. `out` past them is as it was, and all of it where the call refuses, by 19 where `room` is shorter than
  * the answer. Two for each byte of the text always suffice (proved). */
-uint64_t mfl_statements(const uint8_t *text, size_t length, uint32_t *out, size_t room);
+uint64_t mfl_statements(const uint8_t *text, size_t length, uint32_t *out, size_t room, uint32_t ceiling);
 
 /* An effect: the parameter and the covariate, each the index of its name's first entry in its list (declared covariates, or data columns
  * without a block), the form by its place in COVARIATE's family, the operator (0 `*`, 1 `+`), and whether it is optional (0 or 1). */
@@ -146,11 +154,11 @@ struct mfl_note {
  * of a list are sorted by offset, without overlap; a name has 1 to 32 bytes that are one word or one number. All of it is checked (12).
  *
  * Outputs past what is given are as they were, and all of them where Resolve refuses: by 19, last of all, where one is shorter than its answer.
- * A working buffer that is shorter than MFL_WORKING is 19 before every other refusal and stays as it is; else all of it is zero afterwards,
- * whatever it held. */
+ * A working buffer that is shorter than MFL_WORKING is 19 before every other refusal, 21 too, and stays as it is; else all of it is zero
+ * afterwards, whatever it held. */
 uint64_t mfl_resolve(const uint8_t *text, size_t length, const uint8_t *block, size_t block_length, const uint32_t *lists, size_t lists_length,
                      uint8_t *ground, size_t ground_room, struct mfl_effect *effects, size_t effects_room, struct mfl_note *notes,
-                     size_t notes_room, uint32_t *work, size_t work_length);
+                     size_t notes_room, uint32_t *work, size_t work_length, uint32_t ceiling);
 
 #ifdef __cplusplus
 }

@@ -7,18 +7,26 @@
     >>> dumachik.resolve("COVARIATE?([CL,V], @CONTINUOUS, [lin,pow])", model).ground
     'COVARIATE?(CL,WT,[lin,pow]);COVARIATE?(V,WT,[lin,pow])'
 
+A count is at most 64, unless a call is given another ceiling, from 0 to 256:
+
+    >>> dumachik.render("PERIPHERALS(0..12)", ceiling=3)
+    Traceback (most recent call last):
+    dumachik.Refusal: 4 at 15 (line 1, column 16): count not a whole 32-bit number, or above the ceiling
+
 One file over a shared library, with ctypes alone. `tools/shared-library` makes the library; it is looked for beside this file and in the
 repository's target/staticlib, or where DUMACHIK_SO says.
 """
 import ctypes
+import operator
 import os
 import pathlib
 from typing import NamedTuple
 
 __all__ = ["count", "render", "statements", "resolve", "Context", "Effect", "Note", "Refusal", "Resolved", "Statement", "Symbol"]
 
-# The limits that texts and answers have.
+# The limits that texts and answers have; a count's is the source's, where no other ceiling is given.
 MAX_TEXT = 16384
+MAX_COUNT = 64
 MAX_EFFECTS = 2048
 MAX_NOTES = 257
 WORKING = 6656
@@ -27,7 +35,7 @@ MEANINGS = {
     1: "text over 16,384 bytes",
     2: "byte that starts no token",
     3: "token not allowed, or end of text",
-    4: "count not a whole 32-bit number, or above 64",
+    4: "count not a whole 32-bit number, or above the ceiling",
     5: "range backwards",
     6: "unknown keyword",
     7: "`?` on a feature without it",
@@ -44,10 +52,11 @@ MEANINGS = {
     18: "over 2,048 effects before merging; over 256 ground statements; ground text over 16,384 bytes",
     19: "an output shorter than its answer; a working buffer shorter than the call's stated length",
     20: "statement index not below the count",
+    21: "ceiling above 256",
 }
 # Those whose place is the index of a statement, and those that have none but 0.
 OF_STATEMENTS = (13, 14, 15, 16, 17, 20)
-OF_ALL = (1, 12, 18, 19)
+OF_ALL = (1, 12, 18, 19, 21)
 
 VARIABILITY = ("EXP", "ADD", "PROP", "LOG", "RE_LOG")
 PD = ("LINEAR", "EMAX", "SIGMOID", "STEP", "LOGLIN")
@@ -163,11 +172,11 @@ def _load():
     text, size = ctypes.c_char_p, ctypes.c_size_t
     numbers = ctypes.POINTER(ctypes.c_uint32)
     signatures = {
-        "mfl_count": [text, size],
-        "mfl_print": [text, size, text, size],
-        "mfl_statements": [text, size, numbers, size],
+        "mfl_count": [text, size, ctypes.c_uint32],
+        "mfl_print": [text, size, text, size, ctypes.c_uint32],
+        "mfl_statements": [text, size, numbers, size, ctypes.c_uint32],
         "mfl_resolve": [text, size, text, size, numbers, size, text, size, ctypes.POINTER(_Effect), size, ctypes.POINTER(_Note), size]
-        + [numbers, size],
+        + [numbers, size, ctypes.c_uint32],
     }
     for name, arguments in signatures.items():
         call = getattr(library, name)
@@ -189,28 +198,36 @@ def _answered(answer, text):
     return answer
 
 
-def count(text):
+def _number(ceiling):
+    """A ceiling as the calls take it. ctypes would cut a number to 32 bits; one that they do not hold is as much above 256 as their largest."""
+    ceiling = operator.index(ceiling)
+    if ceiling < 0:
+        raise ValueError(f"a ceiling is a number from 0 to 256, not {ceiling}")
+    return min(ceiling, 0xFFFFFFFF)
+
+
+def count(text, *, ceiling=MAX_COUNT):
     """The number of statements of a text."""
     text = _bytes(text)
-    return _answered(_library.mfl_count(text, len(text)), text)
+    return _answered(_library.mfl_count(text, len(text), _number(ceiling)), text)
 
 
-def render(text):
-    """The canonical text."""
+def render(text, *, ceiling=MAX_COUNT):
+    """The canonical text, which is read again under the same ceiling."""
     text = _bytes(text)
     # a canonical text is never longer than its text
     out = ctypes.create_string_buffer(max(1, min(len(text), MAX_TEXT)))
-    length = _answered(_library.mfl_print(text, len(text), out, min(len(text), MAX_TEXT)), text)
+    length = _answered(_library.mfl_print(text, len(text), out, min(len(text), MAX_TEXT), _number(ceiling)), text)
     return out.raw[:length].decode("ascii")
 
 
-def statements(text):
+def statements(text, *, ceiling=MAX_COUNT):
     """The statements of a text, in their order."""
     text = _bytes(text)
     # two numbers for each byte of the text always suffice
     room = 2 * min(len(text), MAX_TEXT)
     out = (ctypes.c_uint32 * max(1, room))()
-    numbers = iter(out[: _answered(_library.mfl_statements(text, len(text), out, room), text)])
+    numbers = iter(out[: _answered(_library.mfl_statements(text, len(text), out, room, _number(ceiling)), text)])
     # each statement stands behind how many numbers it has
     return [_statement(numbers, text) for _ in numbers]
 
@@ -282,16 +299,15 @@ class _Names:
         self.block += name
 
 
-def resolve(text, context):
-    """The ground text, the covariate effects and the notes of a text in a context."""
+def resolve(text, context, *, ceiling=MAX_COUNT):
+    """The ground text, the covariate effects and the notes of a text in a context. The ground text is read again under the same ceiling."""
     text, names = _bytes(text), _Names(context)
     lists = (ctypes.c_uint32 * len(names.numbers))(*names.numbers)
     ground = ctypes.create_string_buffer(MAX_TEXT)
     effects, notes, work = (_Effect * MAX_EFFECTS)(), (_Note * MAX_NOTES)(), (ctypes.c_uint32 * WORKING)()
     block = bytes(names.block)
-    answer = _library.mfl_resolve(
-        text, len(text), block, len(block), lists, len(lists), ground, MAX_TEXT, effects, MAX_EFFECTS, notes, MAX_NOTES, work, WORKING
-    )
+    outputs = (ground, MAX_TEXT, effects, MAX_EFFECTS, notes, MAX_NOTES, work, WORKING)
+    answer = _library.mfl_resolve(text, len(text), block, len(block), lists, len(lists), *outputs, _number(ceiling))
     _answered(answer, text)
     many = {"ground": answer & 0xFFFF, "effects": answer >> 16 & 0xFFFF, "notes": answer >> 40}
     effect = lambda e: Effect(

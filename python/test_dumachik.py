@@ -85,5 +85,38 @@ refused("an unknown name", lambda: dumachik.resolve("LAGTIME(ON);IIV(Q,EXP)", K)
 refused("no template", lambda: dumachik.resolve("IIV(@PK,EXP)", columns), 14, 0, None, None, 0)
 refused("a wrong context", lambda: dumachik.resolve("LAGTIME(ON)", Context(["CRCL.1"])), 12, 0, None, None, None)
 refused("a wrong text first", lambda: dumachik.resolve("LAGTIME(MAYBE)", Context(["CRCL.1"])), 10, 8, 1, 9, None)
+
+# Ceilings: every count held to them, wherever it stands, by every call; without one it is 64.
+CALLS = {
+    "count": dumachik.count,
+    "render": dumachik.render,
+    "statements": dumachik.statements,
+    "resolve": lambda text, **named: dumachik.resolve(text, K, **named),
+}
+for name, call in CALLS.items():
+    for ceiling in (0, 1, 3, 63, 64, 65, 255, 256):
+        for form, place in (("PERIPHERALS({})", 12), ("PERIPHERALS(0..{})", 15), ("TRANSITS([0,{}],DEPOT)", 12)):
+            text, over = form.format(ceiling), form.format(ceiling + 1)
+            wanted = {"count": 1, "render": text, "statements": dumachik.statements(text, ceiling=256)}.get(name)
+            found = call(text, ceiling=ceiling)
+            check(f"{name} under {ceiling}", found.ground if name == "resolve" else found, text if name == "resolve" else wanted)
+            refused(f"{name} under {ceiling}", lambda: call(over, ceiling=ceiling), 4, place, 1, place + 1, None)
+        refused(f"{name} under {ceiling}", lambda: call(f"LET(A,0..{ceiling})", ceiling=ceiling), 9, 6, 1, 7, None)
+        refused(f"{name} under {ceiling}", lambda: call(f"LET(A,0..{ceiling + 1})", ceiling=ceiling), 4, 9, 1, 10, None)
+    refused(f"{name}, as usual", lambda: call("PERIPHERALS(65)"), 4, 12, 1, 13, None)
+    check(f"{name}, as usual", call("PERIPHERALS(64)"), call("PERIPHERALS(64)", ceiling=64))
+    for ceiling in (257, 65536 + 64, 2**32 - 1, 2**32, 2**32 + 64, 2**70):
+        for text in ("", "LAGTIME(ON)", "$", " " * 16385):
+            refused(f"{name} under {ceiling}", lambda: call(text, ceiling=ceiling), 21, 0, None, None, None)
+    for ceiling, kind in ((-1, ValueError), (3.0, TypeError), ("3", TypeError), (None, TypeError)):
+        try:
+            check(f"{name} under {ceiling}", call("", ceiling=ceiling), kind)
+        except Exception as raised:
+            check(f"{name} under {ceiling}", (type(raised)), kind)
+check("no counts", dumachik.count("LET(A,9);IIV([9,CL],EXP);ALLOMETRY(WT,9)", ceiling=0), 3)
+ground = dumachik.resolve("transits(0256);IIV(@PK,EXP)", K, ceiling=256).ground
+check("a ground text", ground, "TRANSITS(256);IIV([CL,V,KA],EXP)")
+check("a ground text again", dumachik.resolve(ground, K, ceiling=256).ground, ground)
+refused("a ground text under 64", lambda: dumachik.count(ground), 4, 9, 1, 10, None)
 print(f"{passed} passed, {failed} failed")
 sys.exit(failed != 0)

@@ -1,9 +1,14 @@
 //! Puts the source's mfl.rs and resolve.rs, unchanged, where lib.rs can name them: from the folder `shared` beside the repository, or from the
-//! folder that DUMACHIK_SHARED names. Where they are not there the programs are built to say so.
+//! folder that DUMACHIK_SHARED names. Where they are not there the programs are built to say so. For src/bin/ceilings.rs there is a copy of
+//! mfl.rs for each of some ceilings, which has that number for its own in the line that says its limit for counts, and no other change.
 use std::path::PathBuf;
 use std::{env, fs};
 
 const MODULES: [&str; 2] = ["mfl", "resolve"];
+
+/// The limit for counts in mfl.rs, and the ceilings that stand for it in the copies.
+const LIMIT: &str = "pub const MAX_COUNT: u32 = 64;";
+const CEILINGS: [u32; 7] = [0, 1, 3, 63, 65, 255, 256];
 
 fn main() {
     let beside = || PathBuf::from(env!("CARGO_MANIFEST_DIR")).join("../../../shared");
@@ -26,6 +31,20 @@ fn main() {
         lines += &format!("#[allow(dead_code)]\n#[path = {module:?}]\npub mod {name};\n");
     }
     fs::write(out.join("source.rs"), lines).expect("OUT_DIR can be written");
+
+    let text = fs::read_to_string(out.join("mfl.rs")).expect("mfl.rs is UTF-8");
+    assert_eq!(text.matches(LIMIT).count(), 1, "mfl.rs says its limit for counts once");
+    let resolve = out.join("resolve.rs");
+    let mut copies = String::new();
+    for ceiling in CEILINGS {
+        let module = out.join(format!("mfl_{ceiling}.rs"));
+        fs::write(&module, text.replace(LIMIT, &LIMIT.replace("64", &ceiling.to_string()))).expect("OUT_DIR can be written");
+        copies += &format!("#[allow(dead_code)]\npub mod under_{ceiling} {{\n#[path = {module:?}]\npub mod mfl;\n");
+        copies += &format!("#[path = {resolve:?}]\npub mod resolve;\n}}\n");
+    }
+    let sources = CEILINGS.map(|ceiling| format!("compare::source!(under_{ceiling})"));
+    copies += &format!("pub fn sources() -> [Source; {}] {{\n[{}]\n}}\n", CEILINGS.len(), sources.join(", "));
+    fs::write(out.join("ceilings.rs"), copies).expect("OUT_DIR can be written");
 
     // A caller: of structure.rs, what `space_features` needs, and the function, from its first line to its last.
     let source = shared.join("src--crates--ferx-tools--src--modelsearch--structure.rs.txt");

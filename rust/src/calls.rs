@@ -1,14 +1,15 @@
-//! The library's calls on slices. All of the crate's `unsafe` is here.
+//! The library's calls on slices, each under [`MAX_COUNT`] and under any ceiling. All of the crate's `unsafe` is here.
 
 use crate::refusal::{answered, refused, Refusal};
+use crate::MAX_COUNT;
 
 mod library {
     extern "C" {
         pub fn mfl_scan(text: *const u8, length: usize) -> usize;
-        pub fn mfl_count(text: *const u8, length: usize) -> u64;
-        pub fn mfl_print(text: *const u8, length: usize, out: *mut u8, room: usize) -> u64;
-        pub fn mfl_statement(text: *const u8, length: usize, index: u32, out: *mut u32, room: usize) -> u64;
-        pub fn mfl_statements(text: *const u8, length: usize, out: *mut u32, room: usize) -> u64;
+        pub fn mfl_count(text: *const u8, length: usize, ceiling: u32) -> u64;
+        pub fn mfl_print(text: *const u8, length: usize, out: *mut u8, room: usize, ceiling: u32) -> u64;
+        pub fn mfl_statement(text: *const u8, length: usize, index: u32, out: *mut u32, room: usize, ceiling: u32) -> u64;
+        pub fn mfl_statements(text: *const u8, length: usize, out: *mut u32, room: usize, ceiling: u32) -> u64;
         pub fn mfl_resolve(
             text: *const u8,
             length: usize,
@@ -24,6 +25,7 @@ mod library {
             notes_room: usize,
             work: *mut u32,
             work_room: usize,
+            ceiling: u32,
         ) -> u64;
     }
 }
@@ -39,30 +41,50 @@ pub fn scan(text: &[u8]) -> usize {
 
 /// Count: the number of statements of a text.
 pub fn count(text: &[u8]) -> Result<usize, Refusal> {
+    count_under(text, MAX_COUNT)
+}
+
+/// [`count`] with a ceiling for counts, from 0 to [`MAX_CEILING`](crate::MAX_CEILING).
+pub fn count_under(text: &[u8], ceiling: u32) -> Result<usize, Refusal> {
     // SAFETY: as above.
-    answered(unsafe { library::mfl_count(text.as_ptr(), text.len()) })
+    answered(unsafe { library::mfl_count(text.as_ptr(), text.len(), ceiling) })
 }
 
 /// Print: writes the canonical text's bytes and gives their number. `out` past them is as it was, and all of it on a refusal, which is
 /// [`OutputTooShort`](crate::Fault::OutputTooShort) where they do not fit. A text's own length is always enough.
 pub fn print_into(text: &[u8], out: &mut [u8]) -> Result<usize, Refusal> {
+    print_into_under(text, out, MAX_COUNT)
+}
+
+/// [`print_into`] with a ceiling for counts.
+pub fn print_into_under(text: &[u8], out: &mut [u8], ceiling: u32) -> Result<usize, Refusal> {
     // SAFETY: as above for both slices, which a shared and an exclusive borrow keep apart.
-    answered(unsafe { library::mfl_print(text.as_ptr(), text.len(), out.as_mut_ptr(), out.len()) })
+    answered(unsafe { library::mfl_print(text.as_ptr(), text.len(), out.as_mut_ptr(), out.len(), ceiling) })
 }
 
 /// Statement: writes the statement at an index as numbers, which `include/dumachik.h` describes, and gives how many. `out` past them is as it
 /// was, and all of it on a refusal. [`STATEMENT_ROOM`] is always enough. [`Mfl::statement`](crate::Mfl::statement) gives the same as a tree.
 pub fn statement_into(text: &[u8], index: u32, out: &mut [u32]) -> Result<usize, Refusal> {
+    statement_into_under(text, index, out, MAX_COUNT)
+}
+
+/// [`statement_into`] with a ceiling for counts.
+pub fn statement_into_under(text: &[u8], index: u32, out: &mut [u32], ceiling: u32) -> Result<usize, Refusal> {
     // SAFETY: as above.
-    answered(unsafe { library::mfl_statement(text.as_ptr(), text.len(), index, out.as_mut_ptr(), out.len()) })
+    answered(unsafe { library::mfl_statement(text.as_ptr(), text.len(), index, out.as_mut_ptr(), out.len(), ceiling) })
 }
 
 /// Statement at every index: writes the numbers of all statements, one statement after the other, each behind how many they are, and gives how
 /// many all are. `out` past them is as it was, and all of it on a refusal. Two for each byte of the text are always enough.
 /// [`Mfl::statements`](crate::Mfl::statements) gives the same as trees.
 pub fn statements_into(text: &[u8], out: &mut [u32]) -> Result<usize, Refusal> {
+    statements_into_under(text, out, MAX_COUNT)
+}
+
+/// [`statements_into`] with a ceiling for counts.
+pub fn statements_into_under(text: &[u8], out: &mut [u32], ceiling: u32) -> Result<usize, Refusal> {
     // SAFETY: as above.
-    answered(unsafe { library::mfl_statements(text.as_ptr(), text.len(), out.as_mut_ptr(), out.len()) })
+    answered(unsafe { library::mfl_statements(text.as_ptr(), text.len(), out.as_mut_ptr(), out.len(), ceiling) })
 }
 
 /// How many elements Resolve's working buffer has to have.
@@ -125,6 +147,11 @@ pub struct Lengths {
 /// Outputs past them are as they were, and all of them on a refusal; the working buffer is zero afterwards, unless it is shorter than
 /// [`WORKING`]. [`resolve`](crate::resolve()) gives the same with names.
 pub fn resolve_into(text: &[u8], block: &[u8], lists: &[u32], buffers: &mut Buffers) -> Result<Lengths, Refusal> {
+    resolve_into_under(text, block, lists, buffers, MAX_COUNT)
+}
+
+/// [`resolve_into`] with a ceiling for counts, under which the ground text is to be read again.
+pub fn resolve_into_under(text: &[u8], block: &[u8], lists: &[u32], buffers: &mut Buffers, ceiling: u32) -> Result<Lengths, Refusal> {
     let Buffers { ground, effects, notes, work } = buffers;
     // SAFETY: each pointer and the length after it are one slice's, and the borrows keep the slices apart. `Effect` and `NoteNumbers` are
     // laid out as the header's five and two bytes.
@@ -144,6 +171,7 @@ pub fn resolve_into(text: &[u8], block: &[u8], lists: &[u32], buffers: &mut Buff
             notes.len(),
             work.as_mut_ptr(),
             work.len(),
+            ceiling,
         )
     };
     match refused(answer) {

@@ -18,7 +18,22 @@
 //! let refusal = Mfl::parse("LAGTIME(ON)\nPERIPHERALS(65)").unwrap_err();
 //! assert_eq!((refusal.fault, refusal.number(), refusal.place), (Fault::NotACount, 4, 24));
 //! assert_eq!(refusal.line_and_column("LAGTIME(ON)\nPERIPHERALS(65)"), (2, 13));
-//! assert_eq!(refusal.to_string(), "MFL: 4 at 24: count not a whole 32-bit number, or above 64");
+//! assert_eq!(refusal.to_string(), "MFL: 4 at 24: count not a whole 32-bit number, or above the ceiling");
+//! # Ok::<(), dumachik::Refusal>(())
+//! ```
+//!
+//! A count is at most 64, as in the source, unless a study has a ceiling of its own, from 0 to 256: whatever reads a text has a second form
+//! with `_under`, which takes it. A space keeps the ceiling that it was read under, and [`resolve()`] gives its ground space under the same.
+//!
+//! ```
+//! use dumachik::{Fault, Mfl};
+//!
+//! let space = Mfl::parse_under("PERIPHERALS(0..3)", 3)?;
+//! assert_eq!((space.as_str(), space.ceiling()), ("PERIPHERALS(0..3)", 3));
+//! let refusal = Mfl::parse_under("PERIPHERALS(12)", 3).unwrap_err();
+//! assert_eq!((refusal.fault, refusal.place), (Fault::NotACount, 12));
+//! let refusal = Mfl::parse_under("PERIPHERALS(12)", 257).unwrap_err();
+//! assert_eq!((refusal.fault, refusal.number(), refusal.place), (Fault::CeilingTooHigh, 21, 0));
 //! # Ok::<(), dumachik::Refusal>(())
 //! ```
 #![deny(unsafe_op_in_unsafe_fn, missing_debug_implementations)]
@@ -36,8 +51,8 @@ use std::hash::{Hash, Hasher};
 use std::sync::OnceLock;
 
 pub use calls::{
-    count, print_into, resolve_into, scan, statement_into, statements_into, Buffers, Effect, Lengths, NoteNumbers, MAX_EFFECTS, MAX_NOTES,
-    STATEMENT_ROOM, WORKING,
+    count, count_under, print_into, print_into_under, resolve_into, resolve_into_under, scan, statement_into, statement_into_under,
+    statements_into, statements_into_under, Buffers, Effect, Lengths, NoteNumbers, MAX_EFFECTS, MAX_NOTES, STATEMENT_ROOM, WORKING,
 };
 pub use context::{CovariateKind, Handed, ModelContext, PkTemplate};
 pub use refusal::{Fault, Refusal};
@@ -53,44 +68,75 @@ pub const MAX_TEXT: usize = 16384;
 pub const MAX_STATEMENTS: usize = 256;
 /// The most entries of an array.
 pub const MAX_ENTRIES: usize = 64;
-/// The largest count.
+/// The largest count where no ceiling is given, which is the source's.
 pub const MAX_COUNT: u32 = 64;
+/// The highest ceiling for counts.
+pub const MAX_CEILING: u32 = 256;
 
 /// Statement: the statement of a text at an index, from zero. Each call reads the whole text; [`Mfl::statements`] is for all of them.
 pub fn statement(text: &[u8], index: u32) -> Result<Statement, Refusal> {
+    statement_under(text, index, MAX_COUNT)
+}
+
+/// [`statement`] with a ceiling for counts.
+pub fn statement_under(text: &[u8], index: u32, ceiling: u32) -> Result<Statement, Refusal> {
     let mut numbers = [0; STATEMENT_ROOM];
-    let written = statement_into(text, index, &mut numbers)?;
+    let written = statement_into_under(text, index, &mut numbers, ceiling)?;
     Ok(numbers::statement_of(&numbers[..written], text))
 }
 
 /// All statements of a text, in their order.
 pub fn statements(text: &[u8]) -> Result<Vec<Statement>, Refusal> {
+    statements_under(text, MAX_COUNT)
+}
+
+/// [`statements`] with a ceiling for counts.
+pub fn statements_under(text: &[u8], ceiling: u32) -> Result<Vec<Statement>, Refusal> {
     let mut numbers = vec![0; 2 * text.len().min(MAX_TEXT)];
-    let written = statements_into(text, &mut numbers)?;
+    let written = statements_into_under(text, &mut numbers, ceiling)?;
     Ok(numbers::statements_of(&numbers[..written], text))
 }
 
-/// An accepted space: its statements, and the text they were read from. Two spaces are equal exactly where their statements are.
-#[derive(Debug, Clone, Default)]
+/// An accepted space: its statements, the text they were read from, and the ceiling they were read under. Two spaces are equal exactly where
+/// their statements are.
+#[derive(Debug, Clone)]
 pub struct Mfl {
     text: Vec<u8>,
+    ceiling: u32,
     statements: Vec<Statement>,
     canonical: OnceLock<String>,
+}
+
+impl Default for Mfl {
+    /// No statements, under [`MAX_COUNT`].
+    fn default() -> Self {
+        Mfl { text: Vec::new(), ceiling: MAX_COUNT, statements: Vec::new(), canonical: OnceLock::new() }
+    }
 }
 
 impl Mfl {
     /// Reads a text, of any bytes.
     pub fn parse(text: impl AsRef<[u8]>) -> Result<Mfl, Refusal> {
+        Mfl::parse_under(text, MAX_COUNT)
+    }
+
+    /// Reads a text with a ceiling for counts, from 0 to [`MAX_CEILING`].
+    pub fn parse_under(text: impl AsRef<[u8]>, ceiling: u32) -> Result<Mfl, Refusal> {
         let text = text.as_ref();
-        let statements = statements(text)?;
-        Ok(Mfl { text: text.to_vec(), statements, canonical: OnceLock::new() })
+        let statements = statements_under(text, ceiling)?;
+        Ok(Mfl { text: text.to_vec(), ceiling, statements, canonical: OnceLock::new() })
     }
 
     /// The space of these statements: they are printed and read back. What is not accepted is refused as a text is; and a name that does not
     /// read back as itself, such as `CL)` or `#`, by [`Fault::UnexpectedToken`] at 0.
     pub fn from_statements(statements: Vec<Statement>) -> Result<Mfl, Refusal> {
+        Mfl::from_statements_under(statements, MAX_COUNT)
+    }
+
+    /// [`Mfl::from_statements`] with a ceiling for counts.
+    pub fn from_statements_under(statements: Vec<Statement>, ceiling: u32) -> Result<Mfl, Refusal> {
         let lines: Vec<String> = statements.iter().map(Statement::to_string).collect();
-        let space = Mfl::parse(lines.join(";"))?;
+        let space = Mfl::parse_under(lines.join(";"), ceiling)?;
         if space.statements != statements {
             return Err(Refusal { fault: Fault::UnexpectedToken, place: 0 });
         }
@@ -107,7 +153,7 @@ impl Mfl {
         self.canonical.get_or_init(|| {
             // A canonical text is never longer than its text.
             let mut out = vec![0; self.text.len()];
-            let length = print_into(&self.text, &mut out).expect("the text was accepted");
+            let length = print_into_under(&self.text, &mut out, self.ceiling).expect("the text was accepted");
             out.truncate(length);
             String::from_utf8(out).expect("a canonical text is ASCII")
         })
@@ -116,6 +162,11 @@ impl Mfl {
     /// The text that was read.
     pub fn as_bytes(&self) -> &[u8] {
         &self.text
+    }
+
+    /// The ceiling that the text was read under.
+    pub fn ceiling(&self) -> u32 {
+        self.ceiling
     }
 
     /// The number of statements.

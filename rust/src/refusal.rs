@@ -41,7 +41,7 @@ faults! {
     TextTooLong = 1, "text over 16,384 bytes";
     StrayByte = 2, "byte that starts no token";
     UnexpectedToken = 3, "token not allowed, or end of text";
-    NotACount = 4, "count not a whole 32-bit number, or above 64";
+    NotACount = 4, "count not a whole 32-bit number, or above the ceiling";
     RangeBackwards = 5, "range backwards";
     UnknownKeyword = 6, "unknown keyword";
     NotOptional = 7, "`?` on a feature without it";
@@ -58,6 +58,7 @@ faults! {
     TooLarge = 18, "over 2,048 effects before merging; over 256 ground statements; ground text over 16,384 bytes";
     OutputTooShort = 19, "an output shorter than its answer; a working buffer shorter than the call's stated length";
     NoSuchStatement = 20, "statement index not below the count";
+    CeilingTooHigh = 21, "ceiling above 256";
 }
 
 impl Refusal {

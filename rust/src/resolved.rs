@@ -2,7 +2,7 @@
 
 use std::{error, fmt};
 
-use crate::calls::{resolve_into, Buffers, Effect, NoteNumbers};
+use crate::calls::{resolve_into_under, Buffers, Effect, NoteNumbers};
 use crate::context::ModelContext;
 use crate::refusal::Refusal;
 use crate::tree::{CovariateEffect, CovariateOp, Mode, Statement};
@@ -47,7 +47,7 @@ impl fmt::Display for Note {
 /// A space with every symbol and `*` replaced by names.
 #[derive(Debug, Clone, PartialEq, Eq)]
 pub struct Resolved {
-    /// The ground text, read back: no LET, no symbol, no `*`.
+    /// The ground text, read back under the ceiling of its space: no LET, no symbol, no `*`.
     pub mfl: Mfl,
     pub covariate_effects: Vec<CovariateEffectSpec>,
     pub notes: Vec<Note>,
@@ -71,11 +71,11 @@ impl fmt::Display for Unresolved {
 
 impl error::Error for Unresolved {}
 
-/// Resolves every symbol and `*` of a space in a model's context.
+/// Resolves every symbol and `*` of a space in a model's context, under the ceiling that the space was read under.
 pub fn resolve(mfl: &Mfl, ctx: &ModelContext) -> Result<Resolved, Unresolved> {
     let handed = ctx.handed();
     let mut buffers = Buffers::default();
-    let lengths = resolve_into(mfl.as_bytes(), &handed.block, &handed.lists, &mut buffers)
+    let lengths = resolve_into_under(mfl.as_bytes(), &handed.block, &handed.lists, &mut buffers, mfl.ceiling())
         .map_err(|refusal| Unresolved { refusal, statement: refusal.statement().and_then(|index| mfl.statements().get(index).cloned()) })?;
     let covariates = ctx.all_covariates();
     let effect = |effect: &Effect| CovariateEffectSpec {
@@ -90,7 +90,7 @@ pub fn resolve(mfl: &Mfl, ctx: &ModelContext) -> Result<Resolved, Unresolved> {
         _ => Note::Additive,
     };
     Ok(Resolved {
-        mfl: Mfl::parse(&buffers.ground[..lengths.ground]).expect("a ground text is accepted"),
+        mfl: Mfl::parse_under(&buffers.ground[..lengths.ground], mfl.ceiling()).expect("a ground text is accepted"),
         covariate_effects: buffers.effects[..lengths.effects].iter().map(effect).collect(),
         notes: buffers.notes[..lengths.notes].iter().map(note).collect(),
     })

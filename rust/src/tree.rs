@@ -190,7 +190,7 @@ impl Operand {
     }
 }
 
-/// One count, a range with both ends, or an array; each count is at most 64.
+/// One count, a range with both ends, or an array; each count is at most the ceiling that it was read under, 64 or another.
 #[derive(Debug, Clone, PartialEq, Eq, Hash)]
 pub enum Counts {
     Single(u32),

@@ -12,7 +12,8 @@ int main(int argc, char **argv) {
     if (!file) return 2;
     size_t length = fread(text, 1, sizeof text, file);
     uint64_t sum = 0;
-    for (long left = atol(argv[2]); left > 0; left--) sum += strcmp(argv[1], "count") ? mfl_print(text, length, out, length) : mfl_count(text, length);
+    for (long left = atol(argv[2]); left > 0; left--)
+        sum += strcmp(argv[1], "count") ? mfl_print(text, length, out, length, MFL_CEILING) : mfl_count(text, length, MFL_CEILING);
     /* so that no call is left out */
     return sum == 1;
 }

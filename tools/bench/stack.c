@@ -21,11 +21,11 @@ static uint8_t *stack;
 static size_t depth;
 
 static void scan(void) { mfl_scan(text, length); }
-static void count(void) { mfl_count(text, length); }
-static void print(void) { mfl_print(text, length, out, room); }
-static void statement(void) { mfl_statement(text, length, index_asked, numbers, MFL_STATEMENT_ROOM); }
+static void count(void) { mfl_count(text, length, MFL_CEILING); }
+static void print(void) { mfl_print(text, length, out, room, MFL_CEILING); }
+static void statement(void) { mfl_statement(text, length, index_asked, numbers, MFL_STATEMENT_ROOM, MFL_CEILING); }
 
-static void statements(void) { mfl_statements(text, length, numbers, room); }
+static void statements(void) { mfl_statements(text, length, numbers, room, MFL_CEILING); }
 
 /* Resolve in a context that has the names of the texts: parameters CL, V, KA, MAT, B-1, 1.5; IIV CL, V; template cl=CL, ka=KA; covariates WT, AGE
  * continuous, SEX, B categorical; columns WT. */
@@ -39,7 +39,7 @@ static uint64_t resolved;
 
 static void resolve(void) {
     resolved = mfl_resolve(text, length, (const uint8_t *)block, sizeof block - 1, lists, sizeof lists / sizeof *lists, out, MFL_GROUND_ROOM, effects,
-                           MFL_EFFECT_ROOM, notes, MFL_NOTE_ROOM, work, MFL_WORKING);
+                           MFL_EFFECT_ROOM, notes, MFL_NOTE_ROOM, work, MFL_WORKING, MFL_CEILING);
 }
 
 static void *measured(void *call) {

@@ -19,7 +19,10 @@ static const uint8_t *bytes(const char *text) { return (const uint8_t *)text; }
 
 static uint64_t refusal(uint64_t number, uint64_t place) { return number << 32 | place; }
 
-static void counts(const char *text, uint64_t wanted) { check(text, mfl_count(bytes(text), strlen(text)), wanted); }
+/* What the calls below are given; `main` changes it for those that are about it. */
+static uint32_t ceiling = MFL_CEILING;
+
+static void counts(const char *text, uint64_t wanted) { check(text, mfl_count(bytes(text), strlen(text), ceiling), wanted); }
 
 /* Print into a buffer of `room` bytes with a pattern behind it: `wanted`, then the pattern, or the pattern alone where it refuses. */
 static void prints(const char *text, size_t room, uint64_t answer, const char *wanted) {
@@ -27,7 +30,7 @@ static void prints(const char *text, size_t room, uint64_t answer, const char *w
     memset(out, 0xA5, sizeof out);
     memset(held, 0xA5, sizeof held);
     memcpy(held, wanted, strlen(wanted));
-    check(text, mfl_print(bytes(text), strlen(text), out, room), answer);
+    check(text, mfl_print(bytes(text), strlen(text), out, room, ceiling), answer);
     check(text, memcmp(out, held, sizeof out) != 0, 0);
 }
 
@@ -37,7 +40,7 @@ static void states(const char *text, uint32_t index, size_t room, uint64_t answe
     memset(out, 0xA5, sizeof out);
     memset(held, 0xA5, sizeof held);
     if (answer <= UINT32_MAX) memcpy(held, wanted, answer * sizeof *wanted);
-    check(text, mfl_statement(bytes(text), strlen(text), index, out, room), answer);
+    check(text, mfl_statement(bytes(text), strlen(text), index, out, room, ceiling), answer);
     check(text, memcmp(out, held, sizeof out) != 0, 0);
 }
 
@@ -47,7 +50,7 @@ static void states_all(const char *text, size_t room, uint64_t answer, const uin
     memset(out, 0xA5, sizeof out);
     memset(held, 0xA5, sizeof held);
     if (answer <= UINT32_MAX) memcpy(held, wanted, answer * sizeof *wanted);
-    check(text, mfl_statements(bytes(text), strlen(text), out, room), answer);
+    check(text, mfl_statements(bytes(text), strlen(text), out, room, ceiling), answer);
     check(text, memcmp(out, held, sizeof out) != 0, 0);
 }
 
@@ -78,7 +81,7 @@ static void resolves(const char *text, size_t ground_room, size_t effects_room, 
     }
     check(text,
           mfl_resolve(bytes(text), strlen(text), bytes(block), sizeof block - 1, lists, sizeof lists / sizeof *lists, out, ground_room,
-                      effect_out, effects_room, note_out, notes_room, work, work_length),
+                      effect_out, effects_room, note_out, notes_room, work, work_length, ceiling),
           answer);
     check(text, memcmp(out, held, sizeof out) != 0, 0);
     check(text, memcmp(effect_out, effect_held, sizeof effect_out) != 0, 0);
@@ -86,17 +89,76 @@ static void resolves(const char *text, size_t ground_room, size_t effects_room, 
     check(text, memcmp(work, work_held, sizeof work) != 0, 0);
 }
 
+/* Ceilings: every count held to them, wherever it stands, and nothing else; those that are none. */
+static void ceilings(const uint8_t *blanks) {
+    const uint32_t held[] = {0, 3, MFL_CEILING, MFL_CEILING_LIMIT};
+    const struct mfl_effect no_effects[1] = {{0, 0, 0, 0, 0}};
+    const struct mfl_note no_notes[1] = {{0, 0}};
+    for (size_t i = 0; i < sizeof held / sizeof *held; i++) {
+        /* the largest count, and one more */
+        char least[64], most[64], over[64];
+        ceiling = held[i];
+        snprintf(least, sizeof least, "PERIPHERALS(0..%u)", ceiling);
+        snprintf(most, sizeof most, "TRANSITS([0,%u],DEPOT)", ceiling);
+        counts(least, 1);
+        counts(most, 1);
+        prints(most, sizeof most, strlen(most), most);
+        states(least, 0, MFL_STATEMENT_ROOM, 6, (uint32_t[]){2, 0, 3, 0, ceiling, 9});
+        states_all(least, 64, 7, (uint32_t[]){6, 2, 0, 3, 0, ceiling, 9});
+        resolves(most, strlen(most), 0, 0, MFL_WORKING, strlen(most), most, no_effects, no_notes);
+        snprintf(over, sizeof over, "PERIPHERALS(%u)", ceiling + 1);
+        counts(over, refusal(4, 12));
+        prints(over, sizeof over, refusal(4, 12), "");
+        resolves(over, 0, 0, 0, MFL_WORKING, refusal(4, 12), NULL, NULL, NULL);
+        snprintf(over, sizeof over, "PERIPHERALS(0..%u)", ceiling + 1);
+        counts(over, refusal(4, 15));
+        states(over, 0, MFL_STATEMENT_ROOM, refusal(4, 15), NULL);
+        snprintf(over, sizeof over, "PERIPHERALS(%u..0)", ceiling + 1);
+        counts(over, refusal(4, 12));
+        snprintf(over, sizeof over, "TRANSITS([0,%u])", ceiling + 1);
+        counts(over, refusal(4, 12));
+        states_all(over, 64, refusal(4, 12), NULL);
+        /* a range that is refused later, and numbers that are no counts */
+        snprintf(over, sizeof over, "LET(A,0..%u)", ceiling + 1);
+        counts(over, refusal(4, 9));
+        snprintf(over, sizeof over, "LET(A,0..%u)", ceiling);
+        counts(over, refusal(9, 6));
+        snprintf(over, sizeof over, "LET(A,%u);ALLOMETRY(WT,%u)", ceiling + 1, ceiling + 1);
+        counts(over, 2);
+        check("16,385 blanks", mfl_count(blanks, MFL_TEXT_LIMIT + 1, ceiling), refusal(1, 0));
+    }
+
+    const uint32_t above[] = {MFL_CEILING_LIMIT + 1, 65536 + MFL_CEILING, UINT32_MAX};
+    for (size_t i = 0; i < sizeof above / sizeof *above; i++) {
+        ceiling = above[i];
+        counts("", refusal(21, 0));
+        counts("$", refusal(21, 0));
+        check("16,385 blanks", mfl_count(blanks, MFL_TEXT_LIMIT + 1, ceiling), refusal(21, 0));
+        prints("LAGTIME(ON)", 0, refusal(21, 0), "");
+        prints("LAGTIME(ON)", 64, refusal(21, 0), "");
+        states("LAGTIME(ON)", 0, MFL_STATEMENT_ROOM, refusal(21, 0), NULL);
+        states("LAGTIME(ON)", 1, 0, refusal(21, 0), NULL);
+        states_all("LAGTIME(ON)", 64, refusal(21, 0), NULL);
+        states_all("LAGTIME(ON)", 0, refusal(21, 0), NULL);
+        resolves("LAGTIME(ON)", MFL_GROUND_ROOM, MFL_EFFECT_ROOM, MFL_NOTE_ROOM, MFL_WORKING, refusal(21, 0), NULL, NULL, NULL);
+        resolves("$", 0, 0, 0, MFL_WORKING, refusal(21, 0), NULL, NULL, NULL);
+        resolves("LAGTIME(ON)", MFL_GROUND_ROOM, MFL_EFFECT_ROOM, MFL_NOTE_ROOM, MFL_WORKING - 1, refusal(19, 0), NULL, NULL, NULL);
+    }
+    ceiling = MFL_CEILING;
+}
+
 int main(void) {
     static uint8_t blanks[MFL_TEXT_LIMIT + 1];
     memset(blanks, ' ', sizeof blanks);
+    ceilings(blanks);
 
     check("scan", mfl_scan(bytes("IIV($"), 5), 4);
     check("scan", mfl_scan(bytes("IIV("), 4), 4);
 
     counts("", 0);
     counts("LAGTIME(ON);;\n ABSORPTION(*) # two", 2);
-    check("16,384 blanks", mfl_count(blanks, MFL_TEXT_LIMIT), 0);
-    check("16,385 blanks", mfl_count(blanks, MFL_TEXT_LIMIT + 1), refusal(1, 0));
+    check("16,384 blanks", mfl_count(blanks, MFL_TEXT_LIMIT, MFL_CEILING), 0);
+    check("16,385 blanks", mfl_count(blanks, MFL_TEXT_LIMIT + 1, MFL_CEILING), refusal(1, 0));
     counts("ABSORPTION?($)", refusal(2, 12));
     counts("FOO(", refusal(3, 4));
     counts("PERIPHERALS(65)", refusal(4, 12));

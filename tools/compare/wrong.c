@@ -1,12 +1,13 @@
-/* The library with one answer in WRONG made wrong, for tools/compare/wrong: the real calls have become real_.. */
+/* The library with one answer in WRONG made wrong, for tools/compare/wrong: the real calls have become real_.. Those whose names begin with
+ * `ceiling` are wrong under other ceilings than 64 alone. */
 #include <string.h>
 
 #include "dumachik.h"
 
 size_t real_scan(const uint8_t *text, size_t length);
-uint64_t real_count(const uint8_t *text, size_t length);
-uint64_t real_print(const uint8_t *text, size_t length, uint8_t *out, size_t room);
-uint64_t real_statement(const uint8_t *text, size_t length, uint32_t index, uint32_t *out, size_t room);
+uint64_t real_count(const uint8_t *text, size_t length, uint32_t ceiling);
+uint64_t real_print(const uint8_t *text, size_t length, uint8_t *out, size_t room, uint32_t ceiling);
+uint64_t real_statement(const uint8_t *text, size_t length, uint32_t index, uint32_t *out, size_t room, uint32_t ceiling);
 
 enum {
     none,
@@ -23,26 +24,38 @@ enum {
     index_of_20_lost,
     number_written_before_19,
     late_statement_optional,
+    ceiling_always_64,
+    ceiling_one_more_for_statement,
+    ceiling_257_like_256,
+    ceiling_too_high_behind_1,
 };
 
 static uint64_t refusal(uint64_t number, uint64_t place) { return number << 32 | place; }
 static int given(uint64_t answer) { return MFL_REFUSAL(answer) == 0; }
+
+/* The ceiling that the real Count and Statement get. */
+static uint32_t taken(uint32_t ceiling) {
+    if (WRONG == ceiling_always_64 && ceiling <= MFL_CEILING_LIMIT) return MFL_CEILING;
+    if (WRONG == ceiling_257_like_256 && ceiling == MFL_CEILING_LIMIT + 1) return MFL_CEILING_LIMIT;
+    return ceiling;
+}
 
 size_t mfl_scan(const uint8_t *text, size_t length) {
     size_t at = real_scan(text, length);
     return WRONG == last_byte_of_a_full_text_stray && at == MFL_TEXT_LIMIT ? at - 1 : at;
 }
 
-uint64_t mfl_count(const uint8_t *text, size_t length) {
-    uint64_t answer = real_count(text, length);
+uint64_t mfl_count(const uint8_t *text, size_t length, uint32_t ceiling) {
+    uint64_t answer = real_count(text, length, taken(ceiling));
+    if (WRONG == ceiling_too_high_behind_1 && MFL_REFUSAL(answer) == 21 && length > MFL_TEXT_LIMIT) return refusal(1, 0);
     if (WRONG == statement_256_refused && answer == MFL_STATEMENT_LIMIT) return refusal(11, length);
     if (WRONG == limit_called_unexpected && MFL_REFUSAL(answer) == 11) return refusal(3, MFL_PLACE(answer));
     if (WRONG == late_stray_byte_one_too_far && MFL_REFUSAL(answer) == 2 && MFL_PLACE(answer) > 200) return answer + 1;
     return answer;
 }
 
-uint64_t mfl_print(const uint8_t *text, size_t length, uint8_t *out, size_t room) {
-    uint64_t answer = real_print(text, length, out, room);
+uint64_t mfl_print(const uint8_t *text, size_t length, uint8_t *out, size_t room, uint32_t ceiling) {
+    uint64_t answer = real_print(text, length, out, room, ceiling);
     if (WRONG == byte_past_a_long_canonical_text && given(answer) && answer > 300 && answer < room) out[answer] = ' ';
     if (WRONG == written_before_19 && MFL_REFUSAL(answer) == 19 && room > 0) out[0] = 'X';
     if (WRONG == late_label_in_upper_case && given(answer))
@@ -51,8 +64,9 @@ uint64_t mfl_print(const uint8_t *text, size_t length, uint8_t *out, size_t room
     return answer;
 }
 
-uint64_t mfl_statement(const uint8_t *text, size_t length, uint32_t index, uint32_t *out, size_t room) {
-    uint64_t answer = real_statement(text, length, index, out, room);
+uint64_t mfl_statement(const uint8_t *text, size_t length, uint32_t index, uint32_t *out, size_t room, uint32_t ceiling) {
+    int more = WRONG == ceiling_one_more_for_statement && ceiling != MFL_CEILING && ceiling < MFL_CEILING_LIMIT;
+    uint64_t answer = real_statement(text, length, index, out, room, taken(ceiling) + more);
     if (WRONG == index_of_20_lost && MFL_REFUSAL(answer) == 20 && index == UINT32_MAX) return refusal(20, 0);
     if (WRONG == number_written_before_19 && MFL_REFUSAL(answer) == 19 && room > 0) out[room - 1] = 0;
     if (!given(answer)) return answer;

@@ -17,9 +17,9 @@ NO_REQUEST = b"malformed: not a request"
 BAD_CHARACTER = re.compile(rb"refused MFL: unexpected character `.*` at offset ([0-9]+): expected a feature keyword, ")
 
 
-def judge():
-    """The path of the judge, built where something changed."""
-    made = subprocess.run([HERE.parent / "judge" / "make"], stdout=subprocess.PIPE)
+def judge(ceiling=None):
+    """The path of the judge, built where something changed; that of the source with another limit for counts, where there is a ceiling."""
+    made = subprocess.run([HERE.parent / "judge" / "make", *([] if ceiling is None else [str(ceiling)])], stdout=subprocess.PIPE)
     if made.returncode != 0:
         sys.exit(made.returncode)
     return pathlib.Path(made.stdout.decode().rstrip("\n"))

@@ -17,6 +17,7 @@ ghost use Rattle.statement_numbers.specs.Ready.{Ready};
 ghost use Rattle.statement_numbers.specs.Answers.{numbersAs};
 ghost use Rattle.space.specs.Space.{statementsIn, Whole};
 ghost use Rattle.all_numbers.specs.Answers.{WasRead, Answers};
+ghost use Rattle.reading_laws.specs.Admitted.{Admitted};
 use forms::Feature;
 use forms::Modes;
 use forms::Refusal;
@@ -26,6 +27,7 @@ use labels::Labels;
 use space::Ending;
 use space::Space;
 use statement_numbers::NumbersAt;
+use statements::Admission;
 use statements::NextRead;
 use tokens::Classes;
 use tokens::Cursor;
@@ -69,7 +71,7 @@ fn put_read(
     limit: u32,
     out: &mut [u32],
 ) -> NumbersAt
-    requires { ⌜ (now classes ≡ classTable) × (now labels ≡ labelTable) × (now keys ≡ keywordTable) × (length (now text) ≤ 16384)
+    requires { ⌜ (now classes ≡ classTable) × (now labels ≡ labelTable) × (now keys ≡ keywordTable) × Admitted limit (now text)
         × (2 * length (now text) ≤ length (now out)) ⌝ }
     ensures { λ r. ⌜ Answers (allNumbering limit (now (text .entry))) (now (out .entry)) (now (out .exit)) r ⌝ }
 {
@@ -142,7 +144,7 @@ fn put_short(
     limit: u32,
     out: &mut [u32],
 ) -> NumbersAt
-    requires { ⌜ (now classes ≡ classTable) × (now labels ≡ labelTable) × (now keys ≡ keywordTable) × (length (now text) ≤ 16384) ⌝ }
+    requires { ⌜ (now classes ≡ classTable) × (now labels ≡ labelTable) × (now keys ≡ keywordTable) × Admitted limit (now text) ⌝ }
     ensures { λ r. ⌜ Answers (allNumbering limit (now (text .entry))) (now (out .entry)) (now (out .exit)) r ⌝ }
 {
     let space = space::read_space(text, classes, labels, keys, limit);
@@ -158,13 +160,13 @@ pub fn all_numbers_under(text: &[u8], limit: u32, out: &mut [u32]) -> NumbersAt
     ensures { λ r. ⌜ (numbersAs r ≡ lengthOf (fitting (length (now (out .entry))) (allNumbering limit (now (text .entry)))))
         × (now (out .exit) ≡ output (fitting (length (now (out .entry))) (allNumbering limit (now (text .entry)))) (now (out .entry))) ⌝ }
 {
-    let size = text.len();
-    if 16384 < size {
-        return NumbersAt::Refused(Refusal {
-            number: forms::TOO_LONG,
-            place: 0,
-        });
+    match statements::admit(text, limit) {
+        Admission::Refused(r) => {
+            return NumbersAt::Refused(r);
+        }
+        Admission::Fine => {}
     }
+    let size = text.len();
     let classes = tokens::CLASSES;
     let labels = labels::LABELS;
     let keys = labels::KEYWORDS;
@@ -172,11 +174,4 @@ pub fn all_numbers_under(text: &[u8], limit: u32, out: &mut [u32]) -> NumbersAt
         return put_read(text, &classes, &labels, &keys, limit, out);
     }
     put_short(text, &classes, &labels, &keys, limit, out)
-}
-
-pub fn all_numbers(text: &[u8], out: &mut [u32]) -> NumbersAt
-    ensures { λ r. ⌜ (numbersAs r ≡ lengthOf (fitting (length (now (out .entry))) (allNumbering 64 (now (text .entry)))))
-        × (now (out .exit) ≡ output (fitting (length (now (out .entry))) (allNumbering 64 (now (text .entry)))) (now (out .entry))) ⌝ }
-{
-    all_numbers_under(text, 64, out)
 }

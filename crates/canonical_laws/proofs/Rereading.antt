@@ -1,5 +1,5 @@
--- A canonical text is read as the statements that it prints, and prints as itself: as long as it keeps within 16,384 bytes and 256
--- statements, and its statements are well formed, which those of an accepted text are.
+-- A canonical text is read as the statements that it prints, and prints as itself, under the same ceiling: as long as it keeps within 16,384
+-- bytes and 256 statements, and its statements are well formed, which those of an accepted text are.
 -- Assumes nothing.
 use Prim.Native.Nat.{ℕ, _+_, _≤_}
 use native.Mathlib.Omega.{arith}
@@ -14,6 +14,7 @@ use Rattle.token_laws.proofs.Spelled.{tokens-spelled}
 use Rattle.reading.specs.Statement.{Statement}
 use Rattle.reading.specs.Answer.{Answer, accepted, refused}
 use Rattle.reading.specs.Read.{Where, between, ended, inside, readFrom, readText}
+use Rattle.reading_laws.specs.Admitted.{Admitted}
 use Rattle.reading_laws.specs.Moved.{moveRead, moveTokens}
 use Rattle.reading_laws.specs.Reads.{Reads, over, overEnded, passed, passedEnded, begun, carried, completed}
 use Rattle.reading_laws.specs.WellFormed.{wellFormed}
@@ -27,13 +28,13 @@ use Rattle.canonical_laws.proofs.Statements.{text-spelled, text-read}
 use Rattle.canonical_laws.proofs.Forgetting.{canonical-forgets, placed-flat}
 
 -- tokens that are accepted where their places are forgotten are accepted where they stand
-module _ (limit : ℕ) (text : List ℕ) (ss : List Statement) (short : length text ≤ 16384) where
+module _ (limit : ℕ) (text : List ℕ) (ss : List Statement) (admitted : Admitted limit text) where
   unforgotten :
       (r : Answer (List Statement))
       → readFrom limit (length text) 0 between (tokens text) ≡ r
       → moveRead nowhere r ≡ accepted (map forget ss)
       → ReadAs limit text ss
-  unforgotten (accepted ts) e f = record { statements = ts; read = accepted-text limit text ts short e; same = cc }
+  unforgotten (accepted ts) e f = record { statements = ts; read = accepted-text limit text ts admitted e; same = cc }
   unforgotten (refused n p) e f = absurd (not-refused f)
 
   pub forgotten-read : readFrom limit 0 0 between (moveTokens nowhere (tokens text)) ≡ accepted (map forget ss) → ReadAs limit text ss
@@ -46,11 +47,11 @@ pub rereads :
     (limit : ℕ) (ss : List Statement)
     → all (wellFormed limit) ss ≡ true
     → length ss ≤ 256
-    → length (canonical ss) ≤ 16384
+    → Admitted limit (canonical ss)
     → ReadAs limit (canonical ss) ss
-rereads limit ss e few short =
+rereads limit ss e few admitted =
     let p = text-spelled limit ss e in
-    forgotten-read limit (canonical ss) ss short
+    forgotten-read limit (canonical ss) ss admitted
     (ap (λ (ts : Tokens). readFrom limit 0 0 between (moveTokens nowhere ts)) (tokens-spelled 0 (textShapes ss) (p .shaped) (p .spaced))
     ∙ ap (readFrom limit 0 0 between) (placed-flat 0 (textShapes ss))
     ∙ text-read limit 0 ss e (omega arith)
@@ -65,11 +66,11 @@ pub prints-itself :
     (limit : ℕ) (ss : List Statement)
     → all (wellFormed limit) ss ≡ true
     → length ss ≤ 256
-    → length (canonical ss) ≤ 16384
+    → Admitted limit (canonical ss)
     → printText limit (canonical ss) ≡ accepted (canonical ss)
 unfolding printText
-prints-itself limit ss e few short =
-    let r = rereads limit ss e few short in
+prints-itself limit ss e few admitted =
+    let r = rereads limit ss e few admitted in
     ap printed (r .read) ∙ ap accepted (prints-alike (r .statements) ss (r .same))
 
 -- how many statements are begun but not counted yet

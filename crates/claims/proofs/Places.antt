@@ -14,7 +14,7 @@ use Rattle.labels.specs.Word.{oneLater}
 use Rattle.tokens.specs.Lex.{tokens}
 use Rattle.tokens.specs.Next.{scanned}
 use Rattle.reading.specs.Statement.{Statement}
-use Rattle.reading.specs.Answer.{Answer, accepted, refused, tooLong, _>>=_}
+use Rattle.reading.specs.Answer.{Answer, accepted, refused, tooHigh, tooLong, _>>=_}
 use Rattle.reading.specs.Read.{readScanned, readText}
 use Rattle.reading_laws.proofs.Within.{refused-within}
 use Rattle.canonical_laws.proofs.Rereading.{few-statements}
@@ -95,12 +95,13 @@ resolve-within c ss few =
 
 pub reading-within : (limit : ℕ) (s : List ℕ) (k p : ℕ) → readText limit s ≡ refused k p → p ≤ 16384
 unfolding readText
-reading-within limit s k p e = by-size (ltb 16384 (length s)) refl e
+reading-within limit s k p e = by-tests (ltb 256 limit) (ltb 16384 (length s)) refl e
   where
-    by-size : (t : Bool) → ltb 16384 (length s) ≡ t
-        → cond t tooLong (readScanned limit (length s) (tokens s) (scanned (tokens s))) ≡ refused k p → p ≤ 16384
-    by-size true h q = let z : _≡_ {A = ℕ} 0 p = cc in omega arith
-    by-size false h q = omega (arith, ltb-false 16384 (length s) h, refused-within limit s k p e)
+    by-tests : (c t : Bool) → ltb 16384 (length s) ≡ t
+        → cond c tooHigh (cond t tooLong (readScanned limit (length s) (tokens s) (scanned (tokens s)))) ≡ refused k p → p ≤ 16384
+    by-tests true t h q = let z : _≡_ {A = ℕ} 0 p = cc in omega arith
+    by-tests false true h q = let z : _≡_ {A = ℕ} 0 p = cc in omega arith
+    by-tests false false h q = omega (arith, ltb-false 16384 (length s) h, refused-within limit s k p e)
 
 pub resolved-within : (limit : ℕ) (g : Given) (text : List ℕ) → AtMost 16384 (resolveText limit g text)
 unfolding resolveText

@@ -6,16 +6,11 @@ use mathlib.Core.Path.{_≡_, refl}
 use mathlib.Core.Bool.{Bool, true, false, cond}
 use mathlib.Core.List.{List}
 use mathlib.Core.Option.{Option, some, none}
-use borrow.Author.Tests.{ltb-true, ltb-false, leb-true}
-use lib.Dec.{ltb, leb}
+use lib.Dec.{ltb}
 use lib.ListN.{length, getElem?}
-use Rattle.token_laws.specs.Shaped.{all}
-use Rattle.tokens.specs.Lex.{tokens}
-use Rattle.tokens.specs.Next.{scanned}
 use Rattle.reading.specs.Statement.{Statement}
-use Rattle.reading.specs.Answer.{Answer, accepted, refused, tooLong}
-use Rattle.reading.specs.Read.{readScanned, readText}
-use Rattle.reading_laws.proofs.Within.{refused-within}
+use Rattle.reading.specs.Answer.{Answer, accepted, refused}
+use Rattle.reading.specs.Read.{readText}
 use Rattle.reading_laws.proofs.Joining.{accepted-short}
 use Rattle.canonical.specs.Print.{lengthOf, printed, printText, fitting}
 use Rattle.canonical.specs.Numbers.{numbersOf, allNumbered, allNumbering}
@@ -23,6 +18,7 @@ use Rattle.canonical_laws.proofs.Shorter.{not-longer}
 use Rattle.canonical_laws.proofs.Rereading.{few-statements}
 use Rattle.canonical_laws.proofs.Numbers.{few-numbers}
 use Rattle.canonical_laws.proofs.Rooms.{all-numbers-room}
+use Rattle.claims.proofs.Places.{reading-within}
 use Rattle.statements.specs.Answers.{counted, chosen, nthOf}
 use Rattle.statements.proofs.Found.{found-well}
 use Rattle.statements.specs.Answers.{counting}
@@ -31,16 +27,7 @@ use Rattle.dumachik.specs.Word.{Below}
 
 -- a text's fault is told within its first 16,384 bytes
 fault-below : (limit : ℕ) (s : List ℕ) (k p : ℕ) → readText limit s ≡ refused k p → p < 4294967296
-unfolding readText
-fault-below limit s k p e = go (ltb 16384 (length s)) refl e
-  where
-    go :
-        (t : Bool)
-        → ltb 16384 (length s) ≡ t
-        → cond t tooLong (readScanned limit (length s) (tokens s) (scanned (tokens s))) ≡ refused k p
-        → p < 4294967296
-    go true h e = let z : _≡_ {A = ℕ} 0 p = cc in omega arith
-    go false h q = omega (arith, ltb-false 16384 (length s) h, refused-within limit s k p e)
+fault-below limit s k p e = omega (arith, reading-within limit s k p e)
 
 -- an answer that fits, or the refusal by 19
 fitted : (room : ℕ) (a : Answer (List ℕ)) → Below (lengthOf a) → Below (lengthOf (fitting room a))

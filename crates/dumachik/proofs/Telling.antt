@@ -1,4 +1,4 @@
--- Each call's word tells its answer, for every input: a refusal's number is 1 to 20 and its place below 2^32, and so is what is given, or, by
+-- Each call's word tells its answer, for every input: a refusal's number is 1 to 21 and its place below 2^32, and so is what is given, or, by
 -- Resolve, small enough for its bits.
 -- Assumes nothing.
 use Prim.Native.Nat.{ℕ, _+_, _*_, _/_, _%_, _≤_, _<_}

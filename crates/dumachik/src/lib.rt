@@ -43,10 +43,10 @@ fn refusal_word(refusal: Refusal) -> u64
 
 // Count: the number of statements of a text.
 #[no_mangle]
-pub extern "C" fn mfl_count(text: &[u8]) -> u64
-    ensures { λ r. ⌜ r ≡ word (counting 64 (now (text .entry))) ⌝ }
+pub extern "C" fn mfl_count(text: &[u8], ceiling: u32) -> u64
+    ensures { λ r. ⌜ r ≡ word (counting ceiling (now (text .entry))) ⌝ }
 {
-    match statements::count(text) {
+    match statements::count_under(text, ceiling) {
         CountRead::Count(n) => n as u64,
         CountRead::Refused(refusal) => refusal_word(refusal),
     }
@@ -54,11 +54,11 @@ pub extern "C" fn mfl_count(text: &[u8]) -> u64
 
 // Statement: the numbers of the statement at an index in `out`, and how many they are.
 #[no_mangle]
-pub extern "C" fn mfl_statement(text: &[u8], index: u32, out: &mut [u32]) -> u64
-    ensures { λ r. ⌜ r ≡ word (lengthOf (fitting (length (now (out .entry))) (numbering 64 (now (text .entry)) index))) ⌝ }
-    ensures { λ _. ⌜ now (out .exit) ≡ output (fitting (length (now (out .entry))) (numbering 64 (now (text .entry)) index)) (now (out .entry)) ⌝ }
+pub extern "C" fn mfl_statement(text: &[u8], index: u32, out: &mut [u32], ceiling: u32) -> u64
+    ensures { λ r. ⌜ r ≡ word (lengthOf (fitting (length (now (out .entry))) (numbering ceiling (now (text .entry)) index))) ⌝ }
+    ensures { λ _. ⌜ now (out .exit) ≡ output (fitting (length (now (out .entry))) (numbering ceiling (now (text .entry)) index)) (now (out .entry)) ⌝ }
 {
-    match statement_numbers::numbers_at(text, index, out) {
+    match statement_numbers::numbers_under(text, index, ceiling, out) {
         NumbersAt::Count(n) => n as u64,
         NumbersAt::Refused(refusal) => refusal_word(refusal),
     }
@@ -67,11 +67,11 @@ pub extern "C" fn mfl_statement(text: &[u8], index: u32, out: &mut [u32]) -> u64
 // Statement of every index at once: the numbers of all statements in `out`, one statement after the other, those of each behind how many they
 // are; and how many all are.
 #[no_mangle]
-pub extern "C" fn mfl_statements(text: &[u8], out: &mut [u32]) -> u64
-    ensures { λ r. ⌜ r ≡ word (lengthOf (fitting (length (now (out .entry))) (allNumbering 64 (now (text .entry))))) ⌝ }
-    ensures { λ _. ⌜ now (out .exit) ≡ output (fitting (length (now (out .entry))) (allNumbering 64 (now (text .entry)))) (now (out .entry)) ⌝ }
+pub extern "C" fn mfl_statements(text: &[u8], out: &mut [u32], ceiling: u32) -> u64
+    ensures { λ r. ⌜ r ≡ word (lengthOf (fitting (length (now (out .entry))) (allNumbering ceiling (now (text .entry))))) ⌝ }
+    ensures { λ _. ⌜ now (out .exit) ≡ output (fitting (length (now (out .entry))) (allNumbering ceiling (now (text .entry)))) (now (out .entry)) ⌝ }
 {
-    match all_numbers::all_numbers(text, out) {
+    match all_numbers::all_numbers_under(text, ceiling, out) {
         NumbersAt::Count(all) => all as u64,
         NumbersAt::Refused(fault) => refusal_word(fault),
     }
@@ -79,17 +79,18 @@ pub extern "C" fn mfl_statements(text: &[u8], out: &mut [u32]) -> u64
 
 // Print: the canonical text's bytes in `out`, and their number.
 #[no_mangle]
-pub extern "C" fn mfl_print(text: &[u8], out: &mut [u8]) -> u64
-    ensures { λ r. ⌜ r ≡ word (lengthOf (fitting (length (now (out .entry))) (printText 64 (now (text .entry))))) ⌝ }
-    ensures { λ _. ⌜ now (out .exit) ≡ output (fitting (length (now (out .entry))) (printText 64 (now (text .entry)))) (now (out .entry)) ⌝ }
+pub extern "C" fn mfl_print(text: &[u8], out: &mut [u8], ceiling: u32) -> u64
+    ensures { λ r. ⌜ r ≡ word (lengthOf (fitting (length (now (out .entry))) (printText ceiling (now (text .entry))))) ⌝ }
+    ensures { λ _. ⌜ now (out .exit) ≡ output (fitting (length (now (out .entry))) (printText ceiling (now (text .entry)))) (now (out .entry)) ⌝ }
 {
-    match render::print(text, out) {
+    match render::print_under(text, out, ceiling) {
         Printed::Length(n) => n as u64,
         Printed::Refused(refusal) => refusal_word(refusal),
     }
 }
 
-// Resolve: the ground text in `ground`, the effects in `effects` and the notes in `notes`, and how many each has.
+// Resolve: the ground text in `ground`, the effects in `effects` and the notes in `notes`, and how many each has. The effects come packed at the
+// start of the working buffer, and are stored as records before it is cleared.
 #[no_mangle]
 pub extern "C" fn mfl_resolve(
     text: &[u8],
@@ -99,16 +100,22 @@ pub extern "C" fn mfl_resolve(
     effects: &mut [Effect],
     notes: &mut [[u8; 2]],
     work: &mut [u32],
+    ceiling: u32,
 ) -> u64
-    ensures { λ r. ⌜ r ≡ resolvedWord (lengthsOf (resolveCall 64 (now (block .entry)) (now (lists .entry)) (now (text .entry))
+    ensures { λ r. ⌜ r ≡ resolvedWord (lengthsOf (resolveCall ceiling (now (block .entry)) (now (lists .entry)) (now (text .entry))
         (lent (now (ground .entry)) (now (effects .entry)) (now (notes .entry))) (length (now (work .entry))))) ⌝ }
-    ensures { λ _. ⌜ now (ground .exit) ≡ outputOf groundText (resolveCall 64 (now (block .entry)) (now (lists .entry)) (now (text .entry))
+    ensures { λ _. ⌜ now (ground .exit) ≡ outputOf groundText (resolveCall ceiling (now (block .entry)) (now (lists .entry)) (now (text .entry))
         (lent (now (ground .entry)) (now (effects .entry)) (now (notes .entry))) (length (now (work .entry)))) (now (ground .entry)) ⌝ }
-    ensures { λ _. ⌜ now (effects .exit) ≡ outputOf (λ x. map recordOf (x .effects)) (resolveCall 64 (now (block .entry)) (now (lists .entry)) (now (text .entry))
+    ensures { λ _. ⌜ now (effects .exit) ≡ outputOf (λ x. map recordOf (x .effects)) (resolveCall ceiling (now (block .entry)) (now (lists .entry)) (now (text .entry))
         (lent (now (ground .entry)) (now (effects .entry)) (now (notes .entry))) (length (now (work .entry)))) (now (effects .entry)) ⌝ }
-    ensures { λ _. ⌜ now (notes .exit) ≡ outputOf (λ x. map noteNumbers (x .notes)) (resolveCall 64 (now (block .entry)) (now (lists .entry)) (now (text .entry))
+    ensures { λ _. ⌜ now (notes .exit) ≡ outputOf (λ x. map noteNumbers (x .notes)) (resolveCall ceiling (now (block .entry)) (now (lists .entry)) (now (text .entry))
         (lent (now (ground .entry)) (now (effects .entry)) (now (notes .entry))) (length (now (work .entry)))) (now (notes .entry)) ⌝ }
     ensures { λ _. ⌜ now (work .exit) ≡ workAfter (now (work .entry)) ⌝ }
 {
-    records::resolve_under(text, block, lists, ground, effects, notes, work, 64)
+    let room = effects.len();
+    let word = records::resolve_word(text, block, lists, ground, room, notes, work, ceiling);
+    let n = records::effects_told(word);
+    records::store_effects(effects, work, n);
+    resolve::finish(work);
+    word
 }

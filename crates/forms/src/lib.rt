@@ -79,6 +79,8 @@ pub const TOO_SHORT: u8 = 19;
 
 pub const NO_STATEMENT: u8 = 20;
 
+pub const CEILING_TOO_HIGH: u8 = 21;
+
 // Why a text is refused: the fault's number and its place.
 pub struct Refusal {
     pub number: u8,

@@ -188,6 +188,57 @@ pub too-long : readText 64 (blanks 16385) ≡ refused 1 0
 unfolding readText
 too-long = refl
 
+-- 21 comes before 1.
+pub too-high-first : readText 257 (blanks 16385) ≡ refused 21 0
+unfolding readText
+too-high-first = refl
+
+-- Document 02, P1: a ceiling and a text. Every count is held to the ceiling: a count alone, both ends of a range wherever one stands, the
+-- entries of an array; names that are numbers, and ALLOMETRY's reference, are no counts.
+pub record Ceiling : Type 0 where
+  pub ceiling : ℕ
+  pub text : String
+  pub comes-to : Outcome
+
+infixl 30 _under_gives_
+abbrev _under_gives_ : String → ℕ → Outcome → Ceiling
+s under c gives o = record { ceiling = c; text = s; comes-to = o }
+
+abbrev pub ceilings : List Ceiling
+ceilings =
+    ("" under 257 gives refusal 21 0)
+    ∷ ("$" under 257 gives refusal 21 0)
+    ∷ ("" under 4294967295 gives refusal 21 0)
+    ∷ ("" under 256 gives stands 0)
+    ∷ ("PERIPHERALS(256)" under 256 gives stands 1)
+    ∷ ("PERIPHERALS(257)" under 256 gives refusal 4 12)
+    ∷ ("PERIPHERALS(256)" under 255 gives refusal 4 12)
+    ∷ ("PERIPHERALS(65)" under 65 gives stands 1)
+    ∷ ("PERIPHERALS(64)" under 63 gives refusal 4 12)
+    ∷ ("PERIPHERALS(0)" under 0 gives stands 1)
+    ∷ ("PERIPHERALS(1)" under 0 gives refusal 4 12)
+    ∷ ("PERIPHERALS(0..3)" under 3 gives stands 1)
+    ∷ ("PERIPHERALS(0..4)" under 3 gives refusal 4 15)
+    ∷ ("PERIPHERALS(4..5)" under 3 gives refusal 4 12)
+    ∷ ("PERIPHERALS([3,0,3])" under 3 gives stands 1)
+    ∷ ("TRANSITS([3,0,4],*)" under 3 gives refusal 4 14)
+    ∷ ("TRANSITS(N)" under 0 gives stands 1)
+    ∷ ("LET(A,0..1)" under 0 gives refusal 4 9)
+    ∷ ("LET(A,0..1)" under 1 gives refusal 9 6)
+    ∷ ("IIV(1..1,EXP)" under 0 gives refusal 4 4)
+    ∷ ("FOO(3..4)" under 3 gives refusal 4 7)
+    ∷ ("LET(A,[4,500])" under 3 gives stands 1)
+    ∷ ("IIV([4,CL],EXP);ALLOMETRY(WT,70)" under 3 gives stands 2)
+    ∷ []
+
+pub ceilings-checked : map (λ e. outcome (readText (e .ceiling) (bytes (e .text)))) ceilings ≡ map (λ e. e .comes-to) ceilings
+unfolding readText readFrom turn opened featureMade letMade closed
+    buildFeature featureOf keywordOf transitsOf explicit operatorOf nameOf
+    placeOf countAt rangeOf itemsOf operandOf modeList firsts modesOf countList countsOf
+    countOf sameWord find labelsOf keywords
+    scanned tokensAfter follow frontOf dots numberRest fraction classOf digitsIn
+ceilings-checked = refl
+
 -- After 256 statements a token but a separator is refused by 11, "never 3"; after 255 it is not.
 abbrev after : ℕ → String → Outcome
 after n s = outcome (readFrom 64 (length (bytes s)) n between (tokens (bytes s)))

@@ -1,4 +1,5 @@
--- Document 01, Faults by cause: a value, or a refusal by its number and its place. The faults of reading, 1 to 11.
+-- Document 01, Faults by cause: a value, or a refusal by its number and its place. The faults of reading, 1 to 11; and document
+-- 02, P1: "A ceiling above 256 is number 21, before 1."
 use Prim.Native.Nat.{ℕ}
 
 infixl 20 _>>=_
@@ -12,6 +13,10 @@ accepted a >>= f = f a
 refused n p >>= f = refused n p
 
 module _ {A : Type 0} where
+  -- ceiling for counts above 256
+  abbrev pub tooHigh : Answer A
+  tooHigh = refused 21 0
+
   -- text over 16,384 bytes
   abbrev pub tooLong : Answer A
   tooLong = refused 1 0
@@ -24,7 +29,7 @@ module _ {A : Type 0} where
   abbrev pub unexpected : ℕ → Answer A
   unexpected o = refused 3 o
 
-  -- count not a whole 32-bit number, or above the limit
+  -- count not a whole 32-bit number, or above the ceiling
   abbrev pub badCount : ℕ → Answer A
   badCount o = refused 4 o
 

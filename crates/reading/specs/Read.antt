@@ -1,5 +1,6 @@
 -- Document 01, Reading: "The whole text is split into tokens before any statement, so a bad character wins over an earlier fault." And
--- Faults, 1, 3 and 11: a text of at most 16,384 bytes and 256 statements.
+-- Faults, 1, 3 and 11: a text of at most 16,384 bytes and 256 statements. And document 02, P1: "Reading .. take a count ceiling from 0 to
+-- 256, and every count is held to that in place of 64." (Where a count is read: Argument.antt.)
 use Prim.Native.Nat.{ℕ, suc}
 use mathlib.Core.Bool.{Bool, false, cond}
 use mathlib.Core.List.{List, [], _∷_}
@@ -12,7 +13,7 @@ use Rattle.tokens.specs.Token.{Shape, word, number, mark, Tokens, finish, bad, 
 use Rattle.tokens.specs.Lex.{tokens}
 use Rattle.tokens.specs.Next.{scanned}
 use Rattle.reading.specs.Statement.{Statement}
-use Rattle.reading.specs.Answer.{Answer, accepted, refused, tooLong, badByte, unexpected, tooMany}
+use Rattle.reading.specs.Answer.{Answer, accepted, refused, tooHigh, tooLong, badByte, unexpected, tooMany}
 use Rattle.reading.specs.Syntax.{State, Step, more, made, stop, opened, turn}
 
 abbrev pub isSeparator : Shape → Bool
@@ -57,7 +58,9 @@ abbrev pub readScanned : ℕ → ℕ → Tokens → Scanned → Answer (List Sta
 readScanned limit size ts Whole = readFrom limit size 0 between ts
 readScanned limit size ts (Stray o) = badByte o
 
--- the statements of a text, under a limit for counts
+-- The statements of a text, under a ceiling for counts. "A ceiling above 256 is number 21, before 1."
 unfoldable pub readText : ℕ → List ℕ → Answer (List Statement)
-readText limit text =
-    cond (ltb 16384 (length text)) tooLong (readScanned limit (length text) (tokens text) (scanned (tokens text)))
+readText ceiling text =
+    cond (ltb 256 ceiling) tooHigh
+    (cond (ltb 16384 (length text)) tooLong
+    (readScanned ceiling (length text) (tokens text) (scanned (tokens text))))

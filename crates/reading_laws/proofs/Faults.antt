@@ -71,14 +71,16 @@ module _ (limit size : ℕ) where
 pub text-gives : (limit : ℕ) (text : List ℕ) → Gives Anything (readText limit text)
 unfolding readText
 text-gives limit text =
-    either-gives (ltb 16384 (length text)) (nothing refl) (scanned-gives limit (length text) (tokens text) (scanned (tokens text)))
+    either-gives (ltb 256 limit) (nothing refl)
+    (either-gives (ltb 16384 (length text)) (nothing refl)
+    (scanned-gives limit (length text) (tokens text) (scanned (tokens text))))
 
 pub refused-fault : (limit : ℕ) (text : List ℕ) (n p : ℕ) → readText limit text ≡ refused n p → isFault n ≡ true
 refused-fault limit text n p e = fault-given (text-gives limit text) e
 
 -- The number of a fault.
 pub fault-least : (n : ℕ) → isFault n ≡ true → 1 ≤ n
-fault-least n e = leb-true 1 n (and-left (leb 1 n) (leb n 20) e)
+fault-least n e = leb-true 1 n (and-left (leb 1 n) (leb n 21) e)
 
-pub fault-most : (n : ℕ) → isFault n ≡ true → n ≤ 20
-fault-most n e = leb-true n 20 (and-right (leb 1 n) (leb n 20) e)
+pub fault-most : (n : ℕ) → isFault n ≡ true → n ≤ 21
+fault-most n e = leb-true n 21 (and-right (leb 1 n) (leb n 21) e)

@@ -16,8 +16,9 @@ use Rattle.tokens.specs.Next.{scanned}
 use Rattle.token_laws.specs.Join.{raise}
 use Rattle.token_laws.proofs.Joining.{tokens-newline}
 use Rattle.reading.specs.Statement.{Statement}
-use Rattle.reading.specs.Answer.{accepted, tooLong}
+use Rattle.reading.specs.Answer.{accepted, tooHigh, tooLong}
 use Rattle.reading.specs.Read.{between, readFrom, readScanned, readText}
+use Rattle.reading_laws.specs.Admitted.{Admitted}
 use Rattle.reading_laws.specs.Raised.{raiseStatement, raiseRead}
 use Rattle.reading_laws.specs.Reads.{Reads, prependAll}
 use Rattle.reading_laws.proofs.Raising.{reading-raised}
@@ -25,39 +26,45 @@ use Rattle.reading_laws.proofs.Accepting.{not-refused, accepted-reads}
 use Rattle.reading_laws.proofs.Scanning.{accepted-whole}
 use Rattle.reading_laws.proofs.Appending.{reading-appends, accepted-after}
 
--- an accepted text is not too long, and its tokens are accepted
+-- an accepted text's ceiling is not too high, the text is not too long, and its tokens are accepted
 module _ (limit : ℕ) (text : List ℕ) (ss : List Statement) (e : readText limit text ≡ accepted ss) where
-  short-and-accepted : (length text ≤ 16384) × (readFrom limit (length text) 0 between (tokens text) ≡ accepted ss)
+  admitted-and-accepted : Admitted limit text × (readFrom limit (length text) 0 between (tokens text) ≡ accepted ss)
   unfolding readText
-  short-and-accepted = go (ltb 16384 (length text)) (scanned (tokens text)) refl e
+  admitted-and-accepted = go (ltb 256 limit) (ltb 16384 (length text)) (scanned (tokens text)) refl refl e
     where
       go :
-          (t : Bool) (s : Scanned)
+          (h t : Bool) (s : Scanned)
+          → ltb 256 limit ≡ h
           → ltb 16384 (length text) ≡ t
-          → cond t tooLong (readScanned limit (length text) (tokens text) s) ≡ accepted ss
-          → (length text ≤ 16384) × (readFrom limit (length text) 0 between (tokens text) ≡ accepted ss)
-      go true s h e = absurd (not-refused e)
-      go false Whole h e = (ltb-false 16384 (length text) h, e)
-      go false (Stray o) h e = absurd (not-refused e)
+          → cond h tooHigh (cond t tooLong (readScanned limit (length text) (tokens text) s)) ≡ accepted ss
+          → Admitted limit text × (readFrom limit (length text) 0 between (tokens text) ≡ accepted ss)
+      go true t s c h e = absurd (not-refused e)
+      go false true s c h e = absurd (not-refused e)
+      go false false Whole c h e =
+          (record { ceiling = ltb-false 256 limit c; short = ltb-false 16384 (length text) h }, e)
+      go false false (Stray o) c h e = absurd (not-refused e)
+
+  pub accepted-admitted : Admitted limit text
+  accepted-admitted = admitted-and-accepted .0
 
   pub accepted-short : length text ≤ 16384
-  accepted-short = short-and-accepted .0
+  accepted-short = accepted-admitted .short
 
   pub text-accepted : readFrom limit (length text) 0 between (tokens text) ≡ accepted ss
-  text-accepted = short-and-accepted .1
+  text-accepted = admitted-and-accepted .1
 
   pub text-reads : Reads limit 0 between (tokens text) ss
   text-reads = accepted-reads limit (length text) 0 between (tokens text) ss text-accepted
 
--- a text that is not too long is accepted where its tokens are
+-- a text that is admitted is accepted where its tokens are
 pub accepted-text :
     (limit : ℕ) (text : List ℕ) (ss : List Statement)
-    → length text ≤ 16384
+    → Admitted limit text
     → readFrom limit (length text) 0 between (tokens text) ≡ accepted ss
     → readText limit text ≡ accepted ss
 unfolding readText
 accepted-text limit text ss h e =
-    simp (le-ltb 16384 (length text) h, accepted-whole limit (length text) 0 between (tokens text) ss e) e
+    simp (le-ltb 256 limit (h .ceiling), le-ltb 16384 (length text) (h .short), accepted-whole limit (length text) 0 between (tokens text) ss e) e
 
 -- statements before accepted ones
 prepend-all : (ss ts : List Statement) → prependAll ss (accepted ts) ≡ accepted (ss ++ ts)
@@ -73,7 +80,8 @@ pub reading-joins :
     → length ss + length ts ≤ 256
     → readText limit (a ++ 10 ∷ b) ≡ accepted (ss ++ map (raiseStatement (length a + 1)) ts)
 reading-joins limit a b ss ts p q short few =
-    accepted-text limit (a ++ 10 ∷ b) (ss ++ map (raiseStatement d) ts) short
+    accepted-text limit (a ++ 10 ∷ b) (ss ++ map (raiseStatement d) ts)
+    (record { ceiling = accepted-admitted limit a ss p .ceiling; short = short })
     (ap (readFrom limit size 0 between) (tokens-newline a b)
     ∙ reading-appends limit (length a) size 0 (length a) between (tokens a) (raise d (tokens b)) ss (text-accepted limit a ss p)
     ∙ ap (prependAll ss) later

@@ -15,7 +15,7 @@ use Rattle.tokens.specs.declared.Scanned.the-variants.{Whole, Stray}
 use Rattle.tokens.specs.Token.{Tokens, finish, bad, _▸_}
 use Rattle.tokens.specs.Lex.{tokens}
 use Rattle.tokens.specs.Next.{scanned}
-use Rattle.reading.specs.Answer.{refused, tooLong}
+use Rattle.reading.specs.Answer.{refused, tooHigh, tooLong}
 use Rattle.reading.specs.Read.{between, readFrom, readScanned, readText}
 use Rattle.reading_laws.specs.Laid.{Laid, finished, strayed, laid}
 use Rattle.reading_laws.specs.Moved.{moveRead, moveTokens}
@@ -78,13 +78,14 @@ read-within limit s k p e =
 -- Whatever a text is refused by, the place lies in it or right behind it.
 pub refused-within : (limit : ℕ) (s : List ℕ) (k p : ℕ) → readText limit s ≡ refused k p → p ≤ length s
 unfolding readText
-refused-within limit s k p e = go (ltb 16384 (length s)) (scanned (tokens s)) refl e
+refused-within limit s k p e = go (ltb 256 limit) (ltb 16384 (length s)) (scanned (tokens s)) refl e
   where
     go :
-        (t : Bool) (c : Scanned)
+        (h t : Bool) (c : Scanned)
         → scanned (tokens s) ≡ c
-        → cond t tooLong (readScanned limit (length s) (tokens s) c) ≡ refused k p
+        → cond h tooHigh (cond t tooLong (readScanned limit (length s) (tokens s) c)) ≡ refused k p
         → p ≤ length s
-    go true c h e = let z : _≡_ {A = ℕ} 0 p = cc in omega arith
-    go false Whole h e = read-within limit s k p e
-    go false (Stray o) h e = let z : o ≡ p = cc in subst (λ (q : ℕ). q ≤ length s) z (stray-within s o h)
+    go true t c h e = let z : _≡_ {A = ℕ} 0 p = cc in omega arith
+    go false true c h e = let z : _≡_ {A = ℕ} 0 p = cc in omega arith
+    go false false Whole h e = read-within limit s k p e
+    go false false (Stray o) h e = let z : o ≡ p = cc in subst (λ (q : ℕ). q ≤ length s) z (stray-within s o h)

@@ -1,3 +1,4 @@
+pub mod Admitted
 pub mod Moved
 pub mod Raised
 pub mod Reads

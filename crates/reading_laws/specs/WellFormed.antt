@@ -226,7 +226,7 @@ wellWhere limit (inside s) = wellState limit s
 
 -- the numbers of faults
 abbrev pub isFault : ℕ → Bool
-isFault n = leb 1 n && leb n 20
+isFault n = leb 1 n && leb n 21
 
 -- a value that is accepted is as said, and what is refused is so by the number of a fault
 pub data Gives {A : Type 0} (P : A → Type 0) : Answer A → Type 0 where

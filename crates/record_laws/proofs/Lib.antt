@@ -2,5 +2,4 @@ pub mod At
 pub mod Call
 pub mod Find
 pub mod Lending
-pub mod Pass
 pub mod Store

@@ -113,14 +113,14 @@ fn resolved_word(resolved: Resolved) -> u64
 }
 
 // How many effects such a number tells of.
-fn effects_told(word: u64) -> usize
+pub fn effects_told(word: u64) -> usize
     ensures { λ r. ⌜ r ≡ effectsTold word ⌝ }
 {
     (word / 65536 % 65536) as usize
 }
 
 // Resolve, its answer as one number and its effects packed at the start of the working buffer.
-fn resolve_word(
+pub fn resolve_word(
     text: &[u8],
     block: &[u8],
     lists: &[u32],
@@ -138,33 +138,4 @@ fn resolve_word(
 {
     let resolved = resolve::resolve_packed(text, block, lists, ground, room, notes, work, limit);
     resolved_word(resolved)
-}
-
-// Resolve under a limit for counts, with its effects as records and its answer as one number.
-pub fn resolve_under(
-    text: &[u8],
-    block: &[u8],
-    lists: &[u32],
-    ground: &mut [u8],
-    effects: &mut [Effect],
-    notes: &mut [[u8; 2]],
-    work: &mut [u32],
-    limit: u32,
-) -> u64
-    ensures { λ r. ⌜ r ≡ resolvedWord (lengthsOf (resolveCall limit (now (block .entry)) (now (lists .entry)) (now (text .entry))
-        (lent (now (ground .entry)) (now (effects .entry)) (now (notes .entry))) (length (now (work .entry))))) ⌝ }
-    ensures { λ _. ⌜ now (ground .exit) ≡ outputOf groundText (resolveCall limit (now (block .entry)) (now (lists .entry)) (now (text .entry))
-        (lent (now (ground .entry)) (now (effects .entry)) (now (notes .entry))) (length (now (work .entry)))) (now (ground .entry)) ⌝ }
-    ensures { λ _. ⌜ now (effects .exit) ≡ outputOf (λ x. map recordOf (x .effects)) (resolveCall limit (now (block .entry)) (now (lists .entry)) (now (text .entry))
-        (lent (now (ground .entry)) (now (effects .entry)) (now (notes .entry))) (length (now (work .entry)))) (now (effects .entry)) ⌝ }
-    ensures { λ _. ⌜ now (notes .exit) ≡ outputOf (λ x. map noteNumbers (x .notes)) (resolveCall limit (now (block .entry)) (now (lists .entry)) (now (text .entry))
-        (lent (now (ground .entry)) (now (effects .entry)) (now (notes .entry))) (length (now (work .entry)))) (now (notes .entry)) ⌝ }
-    ensures { λ _. ⌜ now (work .exit) ≡ workAfter (now (work .entry)) ⌝ }
-{
-    let room = effects.len();
-    let word = resolve_word(text, block, lists, ground, room, notes, work, limit);
-    let n = effects_told(word);
-    store_effects(effects, work, n);
-    resolve::finish(work);
-    word
 }

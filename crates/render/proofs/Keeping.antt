@@ -13,6 +13,7 @@ use Rattle.token_laws.proofs.Tests.{and-left, and-right}
 use Rattle.reading.specs.Statement.{Statement}
 use Rattle.reading.specs.Answer.{Answer, accepted, refused}
 use Rattle.reading.specs.Read.{between, prepend, readText}
+use Rattle.reading_laws.specs.Admitted.{Admitted}
 use Rattle.reading_laws.specs.Reads.{prependAll}
 use Rattle.reading_laws.specs.Spelled.{asRead}
 use Rattle.reading_laws.proofs.Joining.{accepted-text}
@@ -124,7 +125,7 @@ module _ (limit : ℕ) (s before mid after : List ℕ) (g : KeptAs limit s befor
 pub refused-next :
     (limit : ℕ) (s before after : List ℕ) (x r : Refusal)
     → KeptAs limit s before after (Refused x)
-    → length s ≤ 16384
+    → Admitted limit s
     → FirstFault s x r
     → Answers (printText limit s) before after (printed.Refused r)
 unfolding KeptAs

@@ -10,7 +10,9 @@ use lib.ListN.{length, getElem?, length-map}
 use Rattle.reading.specs.Statement.{Statement}
 use Rattle.reading.specs.Answer.{Answer, accepted, refused}
 use Rattle.reading.specs.Read.{readText}
+use Rattle.reading_laws.specs.Admitted.{Admitted}
 use Rattle.reading_laws.proofs.Accepting.{not-refused}
+use Rattle.reading_laws.proofs.Joining.{accepted-admitted}
 use Rattle.reading_laws.proofs.WellRead.{text-well-formed}
 use Rattle.canonical.specs.Canonical.{canonical}
 use Rattle.canonical.specs.Print.{printed, printText}
@@ -19,7 +21,6 @@ use Rattle.canonical_laws.proofs.Shorter.{not-longer}
 use Rattle.canonical_laws.proofs.Rereading.{rereads, prints-itself, few-statements}
 use Rattle.statements.specs.Answers.{counted, chosen, nthOf}
 use Rattle.render.specs.Laws.{unplaced, Canonical}
-use Rattle.render.proofs.Loop.{accepted-short}
 
 -- statements that are the same without their places: as many, and each the same
 same-number : (ts ss : List Statement) → map forget ts ≡ map forget ss → length ts ≡ length ss
@@ -40,8 +41,9 @@ of-statements limit text ss e =
     let well = text-well-formed limit text ss e in
     let few = few-statements limit text ss e in
     let short = not-longer limit text ss e in
-    let fits = accepted-short limit text ss e in
-    let r = rereads limit ss well few (omega arith) in
+    let admitted = accepted-admitted limit text ss e in
+    let again : Admitted limit (canonical ss) = record { ceiling = admitted .ceiling; short = omega (arith, admitted .short) } in
+    let r = rereads limit ss well few again in
     record {
       count =
           ap (counted 0) (r .read)
@@ -52,7 +54,7 @@ of-statements limit text ss e =
           ap (λ (a : Answer (List Statement)). unplaced (nthOf i a)) (r .read)
           ∙ same-each i (r .statements) ss (r .same)
           ∙ sym (ap (λ (a : Answer (List Statement)). unplaced (nthOf i a)) e);
-      prints = prints-itself limit ss well few (omega arith);
+      prints = prints-itself limit ss well few again;
     }
 
 pub canonical-holds : (limit : ℕ) (text bytes : List ℕ) → printText limit text ≡ accepted bytes → Canonical limit text bytes

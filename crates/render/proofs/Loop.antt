@@ -1,24 +1,20 @@
 -- Printing a text's statements one after the other: what was printed, and what is left.
 -- Assumes nothing.
 use mathlib.Core.Path.{_≡_, refl, _∙_, ap, sym, subst}
-use mathlib.Core.Bool.{Bool, true, false, cond}
+use mathlib.Core.Bool.{true}
 use mathlib.Core.List.{List, [], _∷_, _++_}
 use Prim.Native.Nat.{ℕ, suc, _+_, _≤_}
 use native.Mathlib.Numerals.{add-one}
 use native.Mathlib.Omega.{arith}
-use borrow.Author.Tests.{ltb-false}
-use lib.Dec.{ltb}
 use lib.ListN.{length}
-use Rattle.tokens.specs.Lex.{tokens}
-use Rattle.tokens.specs.Next.{scanned}
 use Rattle.token_laws.specs.Shaped.{all}
 use Rattle.token_laws.proofs.Tests.{and-left, and-right}
 use Rattle.reading.specs.Statement.{Statement}
-use Rattle.reading.specs.Answer.{Answer, accepted, tooLong}
-use Rattle.reading.specs.Read.{between, prepend, readScanned, readText}
+use Rattle.reading.specs.Answer.{Answer, accepted}
+use Rattle.reading.specs.Read.{between, prepend, readText}
 use Rattle.reading_laws.specs.Spelled.{asRead}
 use Rattle.reading_laws.proofs.Accepting.{not-refused}
-use Rattle.reading_laws.proofs.Joining.{text-accepted}
+use Rattle.reading_laws.proofs.Joining.{accepted-short, text-accepted}
 use Rattle.reading_laws.proofs.Spelled.{text-as-read}
 use Rattle.canonical.specs.Canonical.{canonical}
 use Rattle.canonical_laws.proofs.Shorter.{not-longer}
@@ -35,18 +31,6 @@ use Rattle.render.specs.Text.{Accepted, pieceOf, Prints}
 use Rattle.render.proofs.Pieces.{restOf, canonical-pieces}
 
 -- an accepted text is not too long, and so its canonical text has an index behind it
-pub accepted-short : (limit : ℕ) (s : List ℕ) (ss : List Statement) → readText limit s ≡ accepted ss → length s ≤ 16384
-unfolding readText
-accepted-short limit s ss e = go (ltb 16384 (length s)) refl e
-  where
-    go :
-        (t : Bool)
-        → ltb 16384 (length s) ≡ t
-        → cond t tooLong (readScanned limit (length s) (tokens s) (scanned (tokens s))) ≡ accepted ss
-        → length s ≤ 16384
-    go true h e = absurd (not-refused e)
-    go false h e = ltb-false 16384 (length s) h
-
 pub canonical-short : (limit : ℕ) (s : List ℕ) (ss : List Statement) → readText limit s ≡ accepted ss → Room 0 (canonical ss)
 canonical-short limit s ss e = omega (arith, accepted-short limit s ss e, not-longer limit s ss e)
 

@@ -10,12 +10,14 @@ ghost use Rattle.parts.specs.Apart.{apart};
 ghost use Rattle.parts.specs.Meaning.{PartsFit};
 ghost use Rattle.writing.specs.Written.{Room, Written};
 ghost use Rattle.render.specs.Text.{Accepted, pieceOf, jointOf, Prints, printedAs, Answers, KeptAs};
+ghost use Rattle.reading_laws.specs.Admitted.{Admitted};
 use forms::Feature;
 use forms::Modes;
 use forms::Refusal;
 use forms::Statement;
 use labels::Keywords;
 use labels::Labels;
+use statements::Admission;
 use statements::CountRead;
 use statements::NextRead;
 use tokens::Classes;
@@ -146,7 +148,7 @@ fn print_few(
     out: &mut [u8],
     limit: u32,
 ) -> Kept
-    requires { ⌜ (now classes ≡ classTable) × (now labels ≡ labelTable) × (now keys ≡ keywordTable) × (length (now text) ≤ 16384)
+    requires { ⌜ (now classes ≡ classTable) × (now labels ≡ labelTable) × (now keys ≡ keywordTable) × Admitted limit (now text)
         × (length (now text) ≤ length (now out)) ⌝ }
     ensures { λ r. ⌜ KeptAs limit (now (text .entry)) (now (out .entry)) (now (out .exit)) r ⌝ }
 {
@@ -186,7 +188,7 @@ fn print_many(
     out: &mut [u8],
     limit: u32,
 ) -> Kept
-    requires { ⌜ (now classes ≡ classTable) × (now labels ≡ labelTable) × (now keys ≡ keywordTable) × (length (now text) ≤ 16384)
+    requires { ⌜ (now classes ≡ classTable) × (now labels ≡ labelTable) × (now keys ≡ keywordTable) × Admitted limit (now text)
         × (length (now text) ≤ length (now out)) ⌝ }
     ensures { λ r. ⌜ KeptAs limit (now (text .entry)) (now (out .entry)) (now (out .exit)) r ⌝ }
 {
@@ -226,7 +228,7 @@ fn print_kept(
     out: &mut [u8],
     limit: u32,
 ) -> Kept
-    requires { ⌜ (now classes ≡ classTable) × (now labels ≡ labelTable) × (now keys ≡ keywordTable) × (length (now text) ≤ 16384)
+    requires { ⌜ (now classes ≡ classTable) × (now labels ≡ labelTable) × (now keys ≡ keywordTable) × Admitted limit (now text)
         × (length (now text) ≤ length (now out)) ⌝ }
     ensures { λ r. ⌜ KeptAs limit (now (text .entry)) (now (out .entry)) (now (out .exit)) r ⌝ }
 {
@@ -261,11 +263,11 @@ fn print_twice(text: &[u8], out: &mut [u8], limit: u32) -> Printed
 pub fn print_under(text: &[u8], out: &mut [u8], limit: u32) -> Printed
     ensures { λ r. ⌜ Answers (printText limit (now (text .entry))) (now (out .entry)) (now (out .exit)) r ⌝ }
 {
-    if 16384 < text.len() {
-        return Printed::Refused(Refusal {
-            number: forms::TOO_LONG,
-            place: 0,
-        });
+    match statements::admit(text, limit) {
+        Admission::Refused(r) => {
+            return Printed::Refused(r);
+        }
+        Admission::Fine => {}
     }
     if out.len() < text.len() {
         return print_twice(text, out, limit);

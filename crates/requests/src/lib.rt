@@ -19,8 +19,8 @@ enum Asked {
     PrintIn(usize),
 }
 
-fn answer_count(text: &[u8], out: &mut [u8], len: usize) -> usize {
-    match statements::count(text) {
+fn answer_count(text: &[u8], ceiling: u32, out: &mut [u8], len: usize) -> usize {
+    match statements::count_under(text, ceiling) {
         CountRead::Count(count) => {
             let n = output::put_all(out, len, b"ok");
             output::put_number(out, n, count)
@@ -29,8 +29,8 @@ fn answer_count(text: &[u8], out: &mut [u8], len: usize) -> usize {
     }
 }
 
-fn answer_statement(text: &[u8], index: usize, out: &mut [u8], len: usize) -> usize {
-    let value = values::value_at(text, index);
+fn answer_statement(text: &[u8], index: usize, ceiling: u32, out: &mut [u8], len: usize) -> usize {
+    let value = values::value_under(text, index, ceiling);
     let found = value.found;
     match found {
         StatementAt::Statement(statement) => {
@@ -51,32 +51,40 @@ fn put_canonical(out: &mut [u8], len: usize, page: &[u8], length: usize, empty: 
 }
 
 // Print into so many bytes of the page. It is larger than any canonical text, so where it has fewer than are asked for the answer is the same.
-fn print_in(text: &[u8], page: &mut [u8], room: usize) -> Printed {
+fn print_in(text: &[u8], page: &mut [u8], room: usize, ceiling: u32) -> Printed {
     let n = output::within(room, page);
-    render::print(text, &mut page[..n])
+    render::print_under(text, &mut page[..n], ceiling)
 }
 
-fn answer_print(text: &[u8], room: usize, empty: &[u8], out: &mut [u8], len: usize) -> usize {
+fn answer_print(
+    text: &[u8],
+    room: usize,
+    ceiling: u32,
+    empty: &[u8],
+    out: &mut [u8],
+    len: usize,
+) -> usize {
     let mut page = io::large_buffer();
-    match print_in(text, &mut page, room) {
+    match print_in(text, &mut page, room, ceiling) {
         Printed::Length(length) => put_canonical(out, len, &page, length, empty),
         Printed::Refused(r) => output::refused(out, len, r.number as usize, r.place),
     }
 }
 
-fn answer_text(asked: Asked, text: &[u8], out: &mut [u8], len: usize) -> usize {
+fn answer_text(asked: Asked, ceiling: u32, text: &[u8], out: &mut [u8], len: usize) -> usize {
     match asked {
         Asked::Tokens => lexed::answer_tokens(text, out, len),
-        Asked::Count => answer_count(text, out, len),
-        Asked::Statement(index) => answer_statement(text, index, out, len),
-        Asked::Print => answer_print(text, 65536, b"ok", out, len),
-        Asked::PrintIn(room) => answer_print(text, room, b"ok -", out, len),
+        Asked::Count => answer_count(text, ceiling, out, len),
+        Asked::Statement(index) => answer_statement(text, index, ceiling, out, len),
+        Asked::Print => answer_print(text, 65536, ceiling, b"ok", out, len),
+        Asked::PrintIn(room) => answer_print(text, room, ceiling, b"ok -", out, len),
     }
 }
 
 // The answer about the text whose digits stand from an offset of the line on.
 fn answer_hex(
     asked: Asked,
+    ceiling: u32,
     line: &[u8],
     from: usize,
     text: &mut [u8],
@@ -87,20 +95,35 @@ fn answer_hex(
         Decoded::Malformed => output::malformed(out, len),
         Decoded::Bytes(length) => {
             let n = output::within(length, text);
-            answer_text(asked, &text[..n], out, len)
+            answer_text(asked, ceiling, &text[..n], out, len)
         }
     }
 }
 
 // `statement INDEX HEX`, from the index on.
-fn answer_index(line: &[u8], from: usize, text: &mut [u8], out: &mut [u8], len: usize) -> usize {
+fn answer_index(
+    line: &[u8],
+    from: usize,
+    ceiling: u32,
+    text: &mut [u8],
+    out: &mut [u8],
+    len: usize,
+) -> usize {
     match words::read_number(line, from) {
         Numbered::Malformed => output::malformed(out, len),
         Numbered::Number { value, end } => {
             if line.len() <= end {
                 return output::malformed(out, len);
             }
-            answer_hex(Asked::Statement(value), line, end + 1, text, out, len)
+            answer_hex(
+                Asked::Statement(value),
+                ceiling,
+                line,
+                end + 1,
+                text,
+                out,
+                len,
+            )
         }
     }
 }
@@ -110,6 +133,7 @@ fn answer_room(
     line: &[u8],
     from: usize,
     end: usize,
+    ceiling: u32,
     text: &mut [u8],
     out: &mut [u8],
     len: usize,
@@ -126,41 +150,80 @@ fn answer_room(
                 return output::malformed(out, len);
             }
             let n = output::within(end, line);
-            answer_hex(Asked::PrintIn(value), &line[..n], from, text, out, len)
+            answer_hex(
+                Asked::PrintIn(value),
+                ceiling,
+                &line[..n],
+                from,
+                text,
+                out,
+                len,
+            )
         }
     }
 }
 
 // `print HEX` or `print HEX N`, from the digits on. Where N follows, the empty text is `-`.
-fn answer_page(line: &[u8], from: usize, text: &mut [u8], out: &mut [u8], len: usize) -> usize {
+fn answer_page(
+    line: &[u8],
+    from: usize,
+    ceiling: u32,
+    text: &mut [u8],
+    out: &mut [u8],
+    len: usize,
+) -> usize {
     let end = words::word_end(line, from);
     if line.len() <= end {
-        return answer_hex(Asked::Print, line, from, text, out, len);
+        return answer_hex(Asked::Print, ceiling, line, from, text, out, len);
     }
     if end <= from {
         return output::malformed(out, len);
     }
-    answer_room(line, from, end, text, out, len)
+    answer_room(line, from, end, ceiling, text, out, len)
 }
 
-// A line's first word says what is asked.
-fn answer_words(line: &[u8], text: &mut [u8], out: &mut [u8], len: usize) -> usize {
+// A request's first word says what is asked.
+fn answer_request(line: &[u8], ceiling: u32, text: &mut [u8], out: &mut [u8], len: usize) -> usize {
     if words::begins(line, b"tokens") {
-        return answer_hex(Asked::Tokens, line, 7, text, out, len);
+        return answer_hex(Asked::Tokens, ceiling, line, 7, text, out, len);
     }
     if words::begins(line, b"count") {
-        return answer_hex(Asked::Count, line, 6, text, out, len);
+        return answer_hex(Asked::Count, ceiling, line, 6, text, out, len);
     }
     if words::begins(line, b"print") {
-        return answer_page(line, 6, text, out, len);
+        return answer_page(line, 6, ceiling, text, out, len);
     }
     if words::begins(line, b"statement") {
-        return answer_index(line, 10, text, out, len);
+        return answer_index(line, 10, ceiling, text, out, len);
     }
     if words::begins(line, b"resolve") {
-        return resolve_lines::answer_resolve(line, 8, text, out, len);
+        return resolve_lines::answer_resolve(line, 8, ceiling, text, out, len);
     }
     output::malformed(out, len)
+}
+
+// `under N REQUEST`, from N on, a 32-bit number. No second ceiling may follow.
+fn answer_under(line: &[u8], from: usize, text: &mut [u8], out: &mut [u8], len: usize) -> usize {
+    match words::read_number(line, from) {
+        Numbered::Malformed => output::malformed(out, len),
+        Numbered::Number { value, end } => {
+            if 4294967295 < value {
+                return output::malformed(out, len);
+            }
+            if line.len() <= end {
+                return output::malformed(out, len);
+            }
+            answer_request(&line[end + 1..], value as u32, text, out, len)
+        }
+    }
+}
+
+// A request, under the ceiling that stands before it or under 64.
+fn answer_words(line: &[u8], text: &mut [u8], out: &mut [u8], len: usize) -> usize {
+    if words::begins(line, b"under") {
+        return answer_under(line, 6, text, out, len);
+    }
+    answer_request(line, 64, text, out, len)
 }
 
 // The answer to a line, with its newline.

@@ -32,6 +32,7 @@ use merging::Grouped;
 use merging::Outcome;
 use space::Ending;
 use space::Space;
+use statements::Admission;
 use tokens::Classes;
 
 // How many bytes the ground text has, and how many effects and notes there are.
@@ -454,8 +455,11 @@ fn resolve_in(
         (now (ground .entry)) room (now (notes .entry))
         (now (ground .exit)) (now (notes .exit)) (now (work .exit)) r ⌝ }
 {
-    if 16384 < text.len() {
-        return refuse(forms::TOO_LONG, 0);
+    match statements::admit(text, limit) {
+        Admission::Refused(r) => {
+            return Resolved::Refused(r);
+        }
+        Admission::Fine => {}
     }
     let classes = tokens::CLASSES;
     let labels = labels::LABELS;

@@ -26,6 +26,7 @@ fn resolve_lent(
     text: &[u8],
     block: &[u8],
     lists: &[u32],
+    ceiling: u32,
     lent: Lent,
     ground: &mut [u8],
     effects: &mut [[u8; 5]],
@@ -36,7 +37,7 @@ fn resolve_lent(
     let e = within::effects(lent.effects, effects);
     let n = within::notes(lent.notes, notes);
     let w = within::numbers(lent.work, work);
-    resolve::resolve(
+    resolve::resolve_under(
         text,
         block,
         lists,
@@ -44,6 +45,7 @@ fn resolve_lent(
         &mut effects[..e],
         &mut notes[..n],
         &mut work[..w],
+        ceiling,
     )
 }
 
@@ -51,6 +53,7 @@ fn answer_lent(
     text: &[u8],
     block: &[u8],
     lists: &[u32],
+    ceiling: u32,
     lent: Lent,
     out: &mut [u8],
     len: usize,
@@ -63,6 +66,7 @@ fn answer_lent(
         text,
         block,
         lists,
+        ceiling,
         lent,
         &mut ground,
         &mut effects,
@@ -138,7 +142,14 @@ fn read_lent(line: &[u8], end: usize) -> Lending {
 }
 
 // The answer about a text, where the context starts at an offset of the line. A context of more than 16,384 numbers is none.
-fn answer_context(line: &[u8], from: usize, text: &[u8], out: &mut [u8], len: usize) -> usize {
+fn answer_context(
+    line: &[u8],
+    from: usize,
+    ceiling: u32,
+    text: &[u8],
+    out: &mut [u8],
+    len: usize,
+) -> usize {
     let mut block = io::large_buffer();
     let mut numbers = [0; 16384];
     let Handed::Context {
@@ -154,13 +165,14 @@ fn answer_context(line: &[u8], from: usize, text: &[u8], out: &mut [u8], len: us
     };
     let b = output::within(bytes, &block);
     let n = within::numbers(count, &numbers);
-    answer_lent(text, &block[..b], &numbers[..n], lent, out, len)
+    answer_lent(text, &block[..b], &numbers[..n], ceiling, lent, out, len)
 }
 
 // The answer to a line whose text starts at an offset. The empty text is `-`.
 pub fn answer_resolve(
     line: &[u8],
     from: usize,
+    ceiling: u32,
     text: &mut [u8],
     out: &mut [u8],
     len: usize,
@@ -176,5 +188,5 @@ pub fn answer_resolve(
         return output::malformed(out, len);
     };
     let n = output::within(bytes, text);
-    answer_context(line, end + 1, &text[..n], out, len)
+    answer_context(line, end + 1, ceiling, &text[..n], out, len)
 }

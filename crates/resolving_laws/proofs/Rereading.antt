@@ -18,6 +18,7 @@ use Rattle.reading.specs.Parts.{featureParts}
 use Rattle.reading.specs.Answer.{accepted}
 use Rattle.reading.specs.Read.{readText}
 use Rattle.reading_laws.specs.WellFormed.{isPlace, wellFormed}
+use Rattle.reading_laws.proofs.Joining.{accepted-admitted}
 use Rattle.reading_laws.proofs.WellRead.{text-well-formed}
 use Rattle.canonical.specs.Canonical.{canonical}
 use Rattle.canonical.specs.Print.{printed, printText}
@@ -174,7 +175,7 @@ module _ (limit : ℕ) (c : Context) where
   unfolding merged
   merged-placed bs wells = merge-all (remaining bs) (all-gather (remains (overridden bs)) (remains-placed (overridden bs)) wells)
 
-  module _ (good : Readable c) (ss : List Statement) (r : Resolved) (well : all (wellFormed limit) ss ≡ true) (e : resolve c ss ≡ accepted r) where
+  module _ (good : Readable c) (ss : List Statement) (r : Resolved) (ceiling : limit ≤ 256) (well : all (wellFormed limit) ss ≡ true) (e : resolve c ss ≡ accepted r) where
     -- Where well formed statements resolve, their ground text is read as their ground statements.
     ground-read : ReadAs limit (canonical (r .statements)) (r .statements)
     ground-read =
@@ -189,7 +190,7 @@ module _ (limit : ℕ) (c : Context) where
         (sym (s .equals))
         (rereads limit (ground c bs (merged bs))
         (ground-well bs wells (merged bs) (fit .once) (merged-placed bs wells) (all-weaker (λ e k. written-named c good (groupOf e) (k .0)) (fit .known)))
-        (s .held .count) (s .held .size))
+        (s .held .count) (record { ceiling = ceiling; short = s .held .size }))
 
     -- The rereading theorem.
     pub ground-reread : Reread limit c r
@@ -222,4 +223,4 @@ pub text-reread :
     → readText limit text ≡ accepted ss
     → resolve c ss ≡ accepted r
     → Reread limit c r
-text-reread limit c text ss r good read e = ground-reread limit c good ss r (text-well-formed limit text ss read) e
+text-reread limit c text ss r good read e = ground-reread limit c good ss r (accepted-admitted limit text ss read .ceiling) (text-well-formed limit text ss read) e

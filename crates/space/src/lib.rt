@@ -6,6 +6,7 @@ ghost use Rattle.tokens.specs.Class.{classTable};
 ghost use Rattle.labels.specs.Table.{labelTable, keywordTable};
 ghost use Rattle.reading.specs.Read.{readText};
 ghost use Rattle.space.specs.Space.{spaceAs, Whole};
+ghost use Rattle.reading_laws.specs.Admitted.{Admitted};
 use forms::Feature;
 use forms::Modes;
 use forms::Refusal;
@@ -47,7 +48,7 @@ fn no_forms() -> [Form; 256]
     [no_form(); 256]
 }
 
-// The statements of a text that is not too long, or why it is refused.
+// The statements of a text that is admitted, or why it is refused.
 pub fn read_space(
     text: &[u8],
     classes: &Classes,
@@ -55,7 +56,7 @@ pub fn read_space(
     keys: &Keywords,
     limit: u32,
 ) -> Space
-    requires { ⌜ (now classes ≡ classTable) × (now labels ≡ labelTable) × (now keys ≡ keywordTable) × (length (now text) ≤ 16384) ⌝ }
+    requires { ⌜ (now classes ≡ classTable) × (now labels ≡ labelTable) × (now keys ≡ keywordTable) × Admitted limit (now text) ⌝ }
     ensures { λ r. ⌜ (spaceAs (now (text .entry)) r ≡ readText limit (now (text .entry))) × Whole r ⌝ }
 {
     let mut forms = no_forms();

@@ -309,10 +309,3 @@ pub fn numbers_under(text: &[u8], index: u32, limit: u32, out: &mut [u32]) -> Nu
         StatementAt::Refused(refusal) => NumbersAt::Refused(refusal),
     }
 }
-
-pub fn numbers_at(text: &[u8], index: u32, out: &mut [u32]) -> NumbersAt
-    ensures { λ r. ⌜ (numbersAs r ≡ lengthOf (fitting (length (now (out .entry))) (numbering 64 (now (text .entry)) index)))
-        × (now (out .exit) ≡ output (fitting (length (now (out .entry))) (numbering 64 (now (text .entry)) index)) (now (out .entry))) ⌝ }
-{
-    numbers_under(text, index, 64, out)
-}

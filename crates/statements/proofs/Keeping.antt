@@ -10,6 +10,7 @@ use lib.Seq.{take-suc-set}
 use Rattle.reading.specs.Statement.{Statement}
 use Rattle.reading.specs.Answer.{Answer, accepted, refused}
 use Rattle.reading.specs.Read.{between, prepend, readText}
+use Rattle.reading_laws.specs.Admitted.{Admitted}
 use Rattle.reading_laws.specs.Reads.{prependAll}
 use Rattle.reading_laws.proofs.Joining.{accepted-text}
 use Rattle.statements.specs.Answers.{readAt}
@@ -71,5 +72,5 @@ module _ {F : Type 0} {mean : F → Statement} {limit : ℕ} {s : List ℕ} {for
   pub ended-then : readAt limit s n between cur ≡ accepted [] → readAt limit s 0 between 0 ≡ accepted (firstOnes mean n forms)
   ended-then e = g .read ∙ ap (prependAll (firstOnes mean n forms)) e ∙ prepend-none (firstOnes mean n forms)
 
-  pub accepted-then : length s ≤ 16384 → readAt limit s n between cur ≡ accepted [] → readText limit s ≡ accepted (firstOnes mean n forms)
+  pub accepted-then : Admitted limit s → readAt limit s n between cur ≡ accepted [] → readText limit s ≡ accepted (firstOnes mean n forms)
   accepted-then h e = accepted-text limit s (firstOnes mean n forms) h (ended-then e)

@@ -1,4 +1,4 @@
--- What becomes of a whole text, by its length, its bytes and its statements.
+-- What becomes of a whole text, by its ceiling, its length, its bytes and its statements.
 -- Assumes nothing.
 use mathlib.Core.Path.{_≡_, _∙_, ap}
 use mathlib.Core.List.{List}
@@ -11,8 +11,9 @@ use Rattle.tokens.specs.declared.Scanned.the-variants.{Whole, Stray}
 use Rattle.tokens.specs.Lex.{tokens}
 use Rattle.tokens.specs.Next.{scanned}
 use Rattle.reading.specs.Statement.{Statement}
-use Rattle.reading.specs.Answer.{accepted, tooLong, badByte}
+use Rattle.reading.specs.Answer.{accepted, tooHigh, tooLong, badByte}
 use Rattle.reading.specs.Read.{between, readScanned, readText}
+use Rattle.reading_laws.specs.Admitted.{Admitted}
 use Rattle.reading_laws.proofs.Scanning.{accepted-whole}
 use Rattle.reading_laws.proofs.Joining.{accepted-text}
 use Rattle.statements.specs.Answers.{readAt, counted, indexed, chosen, nthOf}
@@ -20,14 +21,18 @@ use Rattle.statements.proofs.Indexes.{indexed-accepted}
 use Rattle.statements.proofs.Whole.{counted-accepted}
 
 module _ (limit : ℕ) (s : List ℕ) where
-  pub long-text : 16384 < length s → readText limit s ≡ tooLong
+  pub high-ceiling : 256 < limit → readText limit s ≡ tooHigh
   unfolding readText
-  long-text h = simp (lt-ltb 16384 (length s) h)
+  high-ceiling h = simp (lt-ltb 256 limit h)
 
-  module _ (h : length s ≤ 16384) where
+  pub long-text : limit ≤ 256 → 16384 < length s → readText limit s ≡ tooLong
+  unfolding readText
+  long-text c h = simp (le-ltb 256 limit c, lt-ltb 16384 (length s) h)
+
+  module _ (h : Admitted limit s) where
     by-scan : (x : Scanned) → scanned (tokens s) ≡ x → readText limit s ≡ readScanned limit (length s) (tokens s) x
     unfolding readText
-    by-scan x e = simp (le-ltb 16384 (length s) h) (ap (readScanned limit (length s) (tokens s)) e)
+    by-scan x e = simp (le-ltb 256 limit (h .ceiling), le-ltb 16384 (length s) (h .short)) (ap (readScanned limit (length s) (tokens s)) e)
 
     -- a byte that starts no token comes before everything else
     pub stray-text : (o : ℕ) → scanned (tokens s) ≡ Stray o → readText limit s ≡ badByte o

@@ -11,10 +11,13 @@ use Rattle.tokens.specs.Next.{tokenAt}
 use Rattle.reading.specs.Statement.{Statement}
 use Rattle.reading.specs.Answer.{Answer, accepted, refused}
 use Rattle.reading.specs.Read.{Where, between, prepend, readFrom, readText}
+use Rattle.reading_laws.specs.Admitted.{Admitted}
 use Rattle.reading.specs.One.{One, whole, halted}
 use Rattle.forms.specs.declared.Refusal.{Refusal}
 use Rattle.forms.specs.Items.{tokensFrom}
 use Rattle.forms.specs.Forms.{statementIn}
+use Rattle.statements.specs.declared.Admission.{Admission}
+use Rattle.statements.specs.declared.Admission.the-variants as admission
 use Rattle.statements.specs.declared.StatementRead.{StatementRead}
 use Rattle.statements.specs.declared.StatementRead.the-variants as statementRead
 use Rattle.statements.specs.declared.Ended.{Ended}
@@ -73,11 +76,16 @@ NextFurther s n o (nextRead.Statement f c) = (o < c .at) × (c .at ≤ length s)
 NextFurther s n o nextRead.End = Unit {0}
 NextFurther s n o (nextRead.Refused r) = Unit {0}
 
--- what the refusal of a text's statements is for the whole text, where that is not too long
+-- what is looked at before a text is read
+abbrev pub AdmissionAs : ℕ → List ℕ → Admission → Type 0
+AdmissionAs limit s admission.Fine = Admitted limit s
+AdmissionAs limit s (admission.Refused r) = readText limit s ≡ refused (r .number) (r .place)
+
+-- what the refusal of a text's statements is for the whole text, where that is admitted
 abbrev pub FirstFault : List ℕ → Refusal → Refusal → Type 0
 FirstFault s x r =
     (limit : ℕ)
-    → length s ≤ 16384
+    → Admitted limit s
     → readAt limit s 0 between 0 ≡ refused (x .number) (x .place)
     → readText limit s ≡ refused (r .number) (r .place)
 
@@ -114,7 +122,7 @@ statementAs s (statementAt.Statement f) = accepted (statementIn s f)
 statementAs s (statementAt.Refused r) = refused (r .number) (r .place)
 
 -- What the calls answer, for every text and index: their contracts say that Count's answer means `counting limit text`, and Statement's
--- `stating limit text index`. The count limit is a parameter, 64 for both.
+-- `stating limit text index`. The limit is the ceiling for counts.
 abbrev pub counting : ℕ → List ℕ → Answer ℕ
 counting limit text = counted 0 (readText limit text)
 

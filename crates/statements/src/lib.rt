@@ -13,7 +13,7 @@ ghost use Rattle.reading.specs.Read.{between};
 ghost use Rattle.forms.specs.Items.{nameIn};
 ghost use Rattle.forms.specs.Fits.{InText};
 ghost use Rattle.arguments.specs.Answers.{readIn, stepIn};
-ghost use Rattle.statements.specs.Answers.{statementThen, StatementFurther, FirstToken, EndedThen, EndedFurther, crowdedBy, readAt, nextThen, NextFurther, FirstFault, counted, countAs, indexed, nthAs, statementAs, counting, stating};
+ghost use Rattle.statements.specs.Answers.{statementThen, StatementFurther, FirstToken, EndedThen, EndedFurther, crowdedBy, readAt, nextThen, NextFurther, AdmissionAs, FirstFault, counted, countAs, indexed, nthAs, statementAs, counting, stating};
 use checks::ItemsRead;
 use features::Built;
 use forms::Items;
@@ -28,6 +28,12 @@ use tokens::Classes;
 use tokens::Cursor;
 use tokens::Scanned;
 use tokens::Token;
+
+// Whether a text is read at all, or why it is not.
+pub enum Admission {
+    Fine,
+    Refused(Refusal),
+}
 
 // A statement with the cursor behind it, or a refusal.
 pub enum StatementRead {
@@ -274,15 +280,34 @@ pub fn earliest(text: &[u8], classes: &Classes, refusal: Refusal) -> Refusal
     }
 }
 
+// What comes before reading: the ceiling for counts, and then the text's length.
+pub fn admit(text: &[u8], limit: u32) -> Admission
+    ensures { λ r. ⌜ AdmissionAs limit (now (text .entry)) r ⌝ }
+{
+    if 256 < limit {
+        return Admission::Refused(Refusal {
+            number: forms::CEILING_TOO_HIGH,
+            place: 0,
+        });
+    }
+    if 16384 < text.len() {
+        return Admission::Refused(Refusal {
+            number: forms::TOO_LONG,
+            place: 0,
+        });
+    }
+    Admission::Fine
+}
+
 // The number of statements of a text, or why it is refused.
 pub fn count_under(text: &[u8], limit: u32) -> CountRead
     ensures { λ r. ⌜ countAs r ≡ counting limit (now (text .entry)) ⌝ }
 {
-    if 16384 < text.len() {
-        return CountRead::Refused(Refusal {
-            number: forms::TOO_LONG,
-            place: 0,
-        });
+    match admit(text, limit) {
+        Admission::Refused(r) => {
+            return CountRead::Refused(r);
+        }
+        Admission::Fine => {}
     }
     let classes = tokens::CLASSES;
     let labels = labels::LABELS;
@@ -291,13 +316,6 @@ pub fn count_under(text: &[u8], limit: u32) -> CountRead
         CountRead::Count(n) => CountRead::Count(n),
         CountRead::Refused(r) => CountRead::Refused(earliest(text, &classes, r)),
     }
-}
-
-// The number of statements of a text.
-pub fn count(text: &[u8]) -> CountRead
-    ensures { λ r. ⌜ countAs r ≡ counting 64 (now (text .entry)) ⌝ }
-{
-    count_under(text, 64)
 }
 
 // The statement at an index, in one reading of the text. It is kept where it comes by (before that any form stands for it), and reading goes
@@ -349,11 +367,11 @@ fn nth(
 pub fn statement_under(text: &[u8], index: usize, limit: u32) -> StatementAt
     ensures { λ r. ⌜ statementAs (now (text .entry)) r ≡ stating limit (now (text .entry)) index ⌝ }
 {
-    if 16384 < text.len() {
-        return StatementAt::Refused(Refusal {
-            number: forms::TOO_LONG,
-            place: 0,
-        });
+    match admit(text, limit) {
+        Admission::Refused(r) => {
+            return StatementAt::Refused(r);
+        }
+        Admission::Fine => {}
     }
     let classes = tokens::CLASSES;
     let labels = labels::LABELS;
@@ -366,11 +384,4 @@ pub fn statement_under(text: &[u8], index: usize, limit: u32) -> StatementAt
         }),
         NthRead::Refused(r) => StatementAt::Refused(earliest(text, &classes, r)),
     }
-}
-
-// The statement of a text at an index.
-pub fn statement_at(text: &[u8], index: usize) -> StatementAt
-    ensures { λ r. ⌜ statementAs (now (text .entry)) r ≡ stating 64 (now (text .entry)) index ⌝ }
-{
-    statement_under(text, index, 64)
 }

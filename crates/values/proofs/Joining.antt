@@ -1,7 +1,7 @@
 -- Document 01, Holding the calls to their word, 3: for all texts A and B that Count accepts, whose joined text has at most 16,384 bytes and
 -- 256 statements, Count of A, newline, B is the sum; Statement gives A's values, then B's with the offsets of their names and symbols raised
--- by A's length and one. The contracts of `statements::count` and `values::value_at` say that their answers are `counting 64` and
--- `stating 64` of every text, so this is claimed of the calls.
+-- by A's length and one. Document 02, P1: "joined .. files share one ceiling". The contracts of `statements::count_under` and
+-- `values::value_under` say that their answers are `counting limit` and `stating limit` of every text, so this is claimed of the calls.
 -- Assumes nothing.
 use mathlib.Core.Path.{_≡_, refl, _∙_, ap, sym}
 use mathlib.Core.List.{List, [], _∷_, _++_, map}

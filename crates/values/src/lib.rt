@@ -127,9 +127,3 @@ pub fn value_under(text: &[u8], index: usize, limit: u32) -> Value
     let classes = tokens::CLASSES;
     value_of(text, &classes, found, found_lists(found))
 }
-
-pub fn value_at(text: &[u8], index: usize) -> Value
-    ensures { λ r. ⌜ (valueAs (now (text .entry)) r ≡ stating 64 (now (text .entry)) index) × Usable (now (text .entry)) r ⌝ }
-{
-    value_under(text, index, 64)
-}

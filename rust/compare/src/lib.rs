@@ -1,4 +1,4 @@
-//! What the comparison and the benchmark share: the source's own mfl.rs and resolve.rs, and texts.
+//! What the comparisons and the benchmark share: the source's own mfl.rs and resolve.rs, and texts.
 
 #[cfg(not(without_source))]
 include!(concat!(env!("OUT_DIR"), "/source.rs"));
@@ -7,6 +7,7 @@ include!(concat!(env!("OUT_DIR"), "/source.rs"));
 #[cfg(not(without_source))]
 pub const MFL_RS: &str = include_str!(concat!(env!("OUT_DIR"), "/mfl.rs"));
 
+pub mod held;
 pub mod random;
 pub mod texts;
 

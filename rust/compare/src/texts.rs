@@ -31,6 +31,7 @@ const KEYWORDS: &[&str] = &[
     "COVARIANCE",
     "LET",
 ];
+const WITH_COUNTS: &[&str] = &["PERIPHERALS", "TRANSITS"];
 const OPTIONAL: &[&str] = &["COVARIATE", "IIV", "IOV", "COVARIANCE"];
 const NAMES: &[&str] = &["CL", "V", "KA", "WT", "AGE", "Vc", "_x", "a-b", "70", "1.5", "SEX", "n", "N", "Q2"];
 const WORDS: &[&str] = &["CL", "V", "KA", "WT", "AGE", "Vc", "_x", "a-b", "SEX", "n", "N", "Q2"];
@@ -38,6 +39,32 @@ const SMALL: &[&str] = &["0", "1", "2", "007", "64", "0000000000064", "3", "12"]
 const NUMBERS: &[&str] = &["0", "1", "2", "007", "64", "65", "0000000000064", "3", "12", "1.0", "4294967295", "4294967296", "99"];
 const ODD: &[&str] =
     &["[]", "+", "*", "@X", "3", "x", "1..2", "[1,x]", "[x]", "[FO]", "$", "", "1.", "[", ")", ";", ".", "..", "[1..2]", "@3", "[@X]"];
+/// Counts that a text for ceilings has are near one of these.
+const NEAR: &[usize] = &[0, 1, 3, 63, 64, 65, 255, 256];
+/// Numbers that are above every ceiling, or no counts at all.
+const FAR: &[&str] = &["257", "1000", "65536", "65600", "1.0", "4294967295", "4294967296", "4294967360", "18446744073709551617"];
+/// Statements that resolve in a model with parameters CL, V, KA and covariates WT and SEX; some do not.
+const IN_MODEL: &[&str] = &[
+    "LET(S,[CL,V])",
+    "LET(D,WT)",
+    "IIV(@PK,EXP)",
+    "IIV(@S,*)",
+    "IOV?(@IIV,[EXP,ADD])",
+    "COVARIATE?(@PK,@CONTINUOUS,*)",
+    "COVARIATE(CL,WT,lin)",
+    "COVARIATE(V,WT,[exp,pow])",
+    "COVARIATE?(V,@D,[lin,pow],+)",
+    "COVARIATE?(*,SEX,*)",
+    "COVARIANCE(IIV,CL)",
+    "COVARIANCE(IIV,[CL,V])",
+    "ALLOMETRY(WT,70)",
+    "ALLOMETRY(WT,300)",
+    "ABSORPTION(*)",
+    "LAGTIME(ON)",
+    "IIV(CL,EXP)",
+    "COVARIATE(CL,SEX,lin)",
+    "IIV(256,EXP)",
+];
 /// Every byte that means something, and some that do not.
 const MARKS: &[u8] = b"()[],.*+?@;#\n\r\t $%-_aZnN09";
 
@@ -78,14 +105,25 @@ pub struct Texts {
     r: Random,
     /// Whether statements may have faults.
     faulty: bool,
+    /// Whether counts are near ceilings, and near which one in this text.
+    ceilings: bool,
+    near: usize,
 }
 
 impl Texts {
     pub fn new(seed: u64) -> Texts {
-        Texts { r: Random::new(seed), faulty: true }
+        Texts { r: Random::new(seed), faulty: true, ceilings: false, near: 0 }
+    }
+
+    /// Texts with counts near ceilings, most of them near one, and ranges in every place for an argument.
+    pub fn near_ceilings(seed: u64) -> Texts {
+        Texts { ceilings: true, ..Texts::new(seed) }
     }
 
     pub fn text(&mut self) -> (Kind, Vec<u8>) {
+        if self.ceilings {
+            self.near = self.r.pick(NEAR);
+        }
         let kind = match self.r.below(10000) {
             0..=2499 => Kind::Good,
             2500..=5999 => Kind::Mixed,
@@ -100,6 +138,25 @@ impl Texts {
         };
         self.faulty = !matches!(kind, Kind::Good | Kind::Joined | Kind::Entries | Kind::Statements | Kind::Length);
         (kind, self.of(kind))
+    }
+
+    /// A text with counts that resolves in the model of `IN_MODEL`, or nearly.
+    pub fn resolvable(&mut self) -> Vec<u8> {
+        self.near = self.r.pick(NEAR);
+        self.faulty = self.r.permille(200);
+        let statement = |texts: &mut Texts| match texts.r.below(5) {
+            0 | 1 => texts.r.pick(IN_MODEL).to_string(),
+            2 => {
+                let arguments = texts.arguments("TRANSITS", false);
+                texts.written("TRANSITS", false, arguments)
+            }
+            _ => {
+                let arguments = texts.arguments("PERIPHERALS", false);
+                texts.written("PERIPHERALS", false, arguments)
+            }
+        };
+        let n = self.r.between(1, 6);
+        (0..n).map(|_| statement(self) + self.separator()).collect::<String>().into_bytes()
     }
 
     fn of(&mut self, kind: Kind) -> Vec<u8> {
@@ -228,12 +285,46 @@ impl Texts {
     }
 
     fn number(&mut self) -> String {
+        if self.ceilings {
+            return if self.faulty && self.r.permille(60) { self.r.pick(FAR).into() } else { self.near_number() };
+        }
         self.r.pick(if self.faulty { NUMBERS } else { SMALL }).into()
+    }
+
+    /// Mostly what the text is near to, or one less; where there may be faults, one more, or what another text is near to.
+    fn near_count(&mut self) -> usize {
+        match self.r.below(100) {
+            0..=39 => self.near,
+            40..=54 => self.near.saturating_sub(1),
+            55..=69 => self.r.below(self.near + 1),
+            70..=84 if self.faulty => self.near + 1,
+            85..=99 if self.faulty => self.r.pick(NEAR) + self.r.below(2),
+            _ => self.r.below(self.near + 1),
+        }
+    }
+
+    fn near_number(&mut self) -> String {
+        let count = self.near_count();
+        match self.r.below(12) {
+            0 => format!("{count:03}"),
+            1 => format!("{count:013}"),
+            _ => count.to_string(),
+        }
+    }
+
+    /// A range near a ceiling; one in ten may run backwards, where there may be faults.
+    fn near_range(&mut self) -> String {
+        let last = self.near_count();
+        let first = if self.r.permille(400) { last } else { self.r.below(last + 1) };
+        let (first, last) =
+            if self.faulty && self.r.permille(100) { (self.number(), self.number()) } else { (first.to_string(), last.to_string()) };
+        format!("{first}{}..{}{last}", self.blank(), self.blank())
     }
 
     fn counts(&mut self) -> String {
         match self.r.below(10) {
             0..=3 => self.number(),
+            4..=6 if self.ceilings => self.near_range(),
             4..=6 if self.faulty => format!("{}{}..{}{}", self.number(), self.blank(), self.blank(), self.number()),
             4..=6 => {
                 let first = self.r.below(65);
@@ -296,6 +387,10 @@ impl Texts {
                 arguments.insert(at, odd);
             }
         }
+        if self.ceilings && self.faulty && self.r.permille(200) {
+            let at = self.r.below(arguments.len());
+            arguments[at] = self.near_range();
+        }
         if self.faulty && self.r.permille(50) {
             arguments.pop();
         }
@@ -303,7 +398,7 @@ impl Texts {
     }
 
     fn statement(&mut self) -> String {
-        let keyword = self.r.pick(KEYWORDS);
+        let keyword = if self.ceilings && self.r.permille(500) { self.r.pick(WITH_COUNTS) } else { self.r.pick(KEYWORDS) };
         let may = OPTIONAL.contains(&keyword);
         let optional = self.r.permille(if may {
             400

@@ -12,19 +12,19 @@ refusal-word-requires : tie.Need-refusal-word-requires
 unfolding countAs
 refusal-word-requires c κs =
     let d = c .before .before .before in
-    let s = now (d .before .before .args .text) in
+    let a = d .before .before .args in
     let r = c .before .refusal .given in
-    subst Below (sym (d .count .ensures) ∙ ap countAs (r .1)) (count-below 64 s)
+    subst Below (sym (d .count-under .ensures) ∙ ap countAs (r .1)) (count-below (a .ceiling) (now (a .text)))
 
 returns : tie.Need-returns
 unfolding countAs
-returns c = ap word (sym (ap countAs (c .before .n .given .1)) ∙ c .before .before .before .count .ensures)
+returns c = ap word (sym (ap countAs (c .before .n .given .1)) ∙ c .before .before .before .count-under .ensures)
 
 returns-2 : tie.Need-returns-2
 unfolding countAs
 returns-2 c =
     let k = c .before .before in
-    c .refusal-word .ensures ∙ ap word (sym (ap countAs (k .refusal .given .1)) ∙ k .before .before .count .ensures)
+    c .refusal-word .ensures ∙ ap word (sym (ap countAs (k .refusal .given .1)) ∙ k .before .before .count-under .ensures)
 
 pub mfl-count-spec : {M : Type 1} → statement M
 mfl-count-spec =

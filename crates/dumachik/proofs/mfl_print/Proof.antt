@@ -15,20 +15,20 @@ refusal-word-requires c κs =
     let p = c .before .before .before .before .before in
     let a = p .before .before .before .before .args in
     let r = c .before .refusal .given in
-    subst Below (sym (p .print .ensures .0) ∙ ap printedAs (r .1)) (print-below 64 (length (now (a .out))) (now (a .text)))
+    subst Below (sym (p .print-under .ensures .told) ∙ ap printedAs (r .1)) (print-below (a .ceiling) (length (now (a .out))) (now (a .text)))
 
 returns : tie.Need-returns
 unfolding printedAs
 returns c =
     let p = c .before .before .before .before .before in
-    (ap word (sym (ap printedAs (c .before .n .given .1)) ∙ p .print .ensures .0), p .print .ensures .1)
+    (ap word (sym (ap printedAs (c .before .n .given .1)) ∙ p .print-under .ensures .told), p .print-under .ensures .bytes)
 
 returns-2 : tie.Need-returns-2
 unfolding printedAs
 returns-2 c =
     let k = c .before .before in
     let p = k .before .before .before .before in
-    (c .refusal-word .ensures ∙ ap word (sym (ap printedAs (k .refusal .given .1)) ∙ p .print .ensures .0), p .print .ensures .1)
+    (c .refusal-word .ensures ∙ ap word (sym (ap printedAs (k .refusal .given .1)) ∙ p .print-under .ensures .told), p .print-under .ensures .bytes)
 
 pub mfl-print-spec : {M : Type 1} → statement M
 mfl-print-spec =

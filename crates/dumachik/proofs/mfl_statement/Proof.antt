@@ -16,21 +16,21 @@ refusal-word-requires c κs =
     let p = c .before .before .before .before .before in
     let a = p .before .before .before .before .args in
     let r = c .before .refusal .given in
-    subst Below (sym (p .numbers-at .ensures .0) ∙ ap numbersAs (r .1))
-    (statement-below 64 (length (now (a .out))) (now (a .text)) (a .index) (omega arith))
+    subst Below (sym (p .numbers-under .ensures .0) ∙ ap numbersAs (r .1))
+    (statement-below (a .ceiling) (length (now (a .out))) (now (a .text)) (a .index) (omega arith))
 
 returns : tie.Need-returns
 unfolding numbersAs
 returns c =
     let p = c .before .before .before .before .before in
-    (ap word (sym (ap numbersAs (c .before .n .given .1)) ∙ p .numbers-at .ensures .0), p .numbers-at .ensures .1)
+    (ap word (sym (ap numbersAs (c .before .n .given .1)) ∙ p .numbers-under .ensures .0), p .numbers-under .ensures .1)
 
 returns-2 : tie.Need-returns-2
 unfolding numbersAs
 returns-2 c =
     let k = c .before .before in
     let p = k .before .before .before .before in
-    (c .refusal-word .ensures ∙ ap word (sym (ap numbersAs (k .refusal .given .1)) ∙ p .numbers-at .ensures .0), p .numbers-at .ensures .1)
+    (c .refusal-word .ensures ∙ ap word (sym (ap numbersAs (k .refusal .given .1)) ∙ p .numbers-under .ensures .0), p .numbers-under .ensures .1)
 
 pub mfl-statement-spec : {M : Type 1} → statement M
 mfl-statement-spec =

@@ -15,21 +15,21 @@ refusal-word-requires c κs =
     let p = c .before .before .before .before .before in
     let a = p .before .before .before .before .args in
     let r = c .before .fault .given in
-    subst Below (sym (p .all-numbers .ensures .0) ∙ ap numbersAs (r .1))
-    (statements-below 64 (length (now (a .out))) (now (a .text)))
+    subst Below (sym (p .all-numbers-under .ensures .0) ∙ ap numbersAs (r .1))
+    (statements-below (a .ceiling) (length (now (a .out))) (now (a .text)))
 
 returns : tie.Need-returns
 unfolding numbersAs
 returns c =
     let p = c .before .before .before .before .before in
-    (ap word (sym (ap numbersAs (c .before .all .given .1)) ∙ p .all-numbers .ensures .0), p .all-numbers .ensures .1)
+    (ap word (sym (ap numbersAs (c .before .all .given .1)) ∙ p .all-numbers-under .ensures .0), p .all-numbers-under .ensures .1)
 
 returns-2 : tie.Need-returns-2
 unfolding numbersAs
 returns-2 c =
     let k = c .before .before in
     let p = k .before .before .before .before in
-    (c .refusal-word .ensures ∙ ap word (sym (ap numbersAs (k .fault .given .1)) ∙ p .all-numbers .ensures .0), p .all-numbers .ensures .1)
+    (c .refusal-word .ensures ∙ ap word (sym (ap numbersAs (k .fault .given .1)) ∙ p .all-numbers-under .ensures .0), p .all-numbers-under .ensures .1)
 
 pub mfl-statements-spec : {M : Type 1} → statement M
 mfl-statements-spec =

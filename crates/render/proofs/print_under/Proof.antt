@@ -3,9 +3,10 @@ use mathlib.Core.Path.{refl, subst}
 use denote.Ref.{now}
 use borrow.Author.Needs.{needs}
 use Rattle.tokens.specs.Class.{classOf, classTable}
+use Rattle.reading_laws.specs.Admitted.{Admitted}
 use Rattle.labels.specs.Label.{labelsOf, keywords}
 use Rattle.labels.specs.Table.{labelTable, keywordTable}
-use Rattle.statements.proofs.Texts.{long-text}
+use Rattle.statements.specs.Answers.{AdmissionAs}
 use Rattle.render.specs.Text.{KeptAs}
 use Rattle.render.proofs.Answering.{refused-answers}
 use Rattle.render.proofs.Keeping.{answers-next, refused-next}
@@ -14,14 +15,23 @@ use Rattle.render.proofs.print_under.Tie as tie
 
 returns : tie.Need-returns
 returns c =
-    let a = c .before .before .before .args in
-    refused-answers (a .limit) (now (a .text)) (now (a .out)) (record { number = 1; place = 0 }) (long-text (a .limit) (now (a .text)) (c .if1 .taken))
+    let r = c .before .r .given in
+    let d = c .before .before .before in
+    let a = d .before .before .before .args in
+    refused-answers (a .limit) (now (a .text)) (now (a .out)) (r .0 .0) (subst (AdmissionAs (a .limit) (now (a .text))) (r .1) (d .admit .ensures))
+
+-- the text and its ceiling are admitted
+fine :
+    (c : tie.After-enum-told)
+    → let a = c .before .before .before .before .before .args in
+    Admitted (a .limit) (now (a .text))
+fine c = subst (AdmissionAs _ _) (c .enum-told .given .1) (c .before .before .admit .ensures)
 
 print-kept-requires : tie.Need-print-kept-requires
 unfolding classTable classOf labelTable labelsOf keywordTable keywords
 print-kept-requires c κs =
     let e = c .before .before .before .before in
-    (refl, refl, refl, e .before .if1 .left, e .if2 .left)
+    (refl, refl, refl, fine (e .before), e .if1 .left)
 
 earliest-requires : tie.Need-earliest-requires
 unfolding classTable classOf
@@ -36,26 +46,29 @@ returns-4 c =
     let r = c .before .before .before in
     let k = r .before .before .before .before in
     let e = k .before .before .before .before .before in
-    let a = e .before .before .before .before .args in
-    refused-next (a .limit) (now (a .text)) (now (a .out)) (k .print-kept .last .1 .1 .1 .1 .0) (r .r .given .0 .0) (c .earliest .result)
-    (subst (KeptAs (a .limit) (now (a .text)) (now (a .out)) (k .print-kept .last .1 .1 .1 .1 .0)) (r .r .given .1) (k .print-kept .ensures))
-    (e .before .if1 .left) (c .earliest .ensures)
+    let a = e .before .before .before .before .before .before .args in
+    refused-next (a .limit) (now (a .text)) (now (a .out)) (k .print-kept .last .1 .1 .1 .1 .0) (r .r2 .given .0 .0) (c .earliest .result)
+    (subst (KeptAs (a .limit) (now (a .text)) (now (a .out)) (k .print-kept .last .1 .1 .1 .1 .0)) (r .r2 .given .1) (k .print-kept .ensures))
+    (fine (e .before)) (c .earliest .ensures)
 
 returns-5 : tie.Need-returns-5
 returns-5 c =
     let t = c .before .before in
     let m = t .before .before in
     let k = m .before .before .before .before in
-    let a = k .before .before .before .before .before .before .before .before .before .args in
+    let a = k .before .before .before .before .before .before .before .before .before .before .before .args in
     answers-next (a .limit) (now (a .text)) (now (a .out)) (k .print-kept .last .1 .1 .1 .1 .0) (t .print-twice2 .last .1 .0)
-    (subst (KeptAs (a .limit) (now (a .text)) (now (a .out)) (k .print-kept .last .1 .1 .1 .1 .0)) (m .enum-told .given .1) (k .print-kept .ensures))
+    (subst (KeptAs (a .limit) (now (a .text)) (now (a .out)) (k .print-kept .last .1 .1 .1 .1 .0)) (m .enum-told2 .given .1) (k .print-kept .ensures))
     (t .print-twice2 .result) (t .print-twice2 .ensures)
 
 pub print-under-spec : {M : Type 1} → statement M
 print-under-spec =
     tie.close
     (tie.spec
+    (λ c κs. search needs)
+    (λ c. search needs)
     returns
+    (λ c. search needs)
     (λ c κs. search needs)
     (λ c. search needs)
     (λ c. search needs)

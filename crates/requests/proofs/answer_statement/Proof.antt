@@ -13,7 +13,7 @@ Few x = (foundLists x .first .count ≤ 64) × (foundLists x .second .count ≤ 
 put-statement-requires : tie.Need-put-statement-requires
 put-statement-requires c κs =
     let f = c .before .before .before .before .before .before .before in
-    let u = f .before .before .value-at .ensures .1 in
+    let u = f .before .before .value-under .ensures .1 in
     subst Few (f .found .given .1) (u .few-first, u .few-second, u .few-counts)
 
 pub answer-statement-spec : {M : Type 1} → statement M
