@@ -20,10 +20,6 @@ use Rattle.writing.proofs.Writing.{patch-front}
 use Rattle.statement_numbers.specs.declared.NumbersAt.{NumbersAt}
 use Rattle.statement_numbers.specs.declared.NumbersAt.the-variants.{Count, Refused}
 use Rattle.statement_numbers.specs.Answers.{numbersAs}
-use Rattle.space.specs.declared.Ending.{Ending}
-use Rattle.space.specs.declared.Ending.the-variants as ending
-use Rattle.space.specs.declared.Space.{Space}
-use Rattle.space.specs.Space.{statementsIn, endingAs, spaceAs}
 use Rattle.all_numbers.specs.Answers.{Answers}
 
 -- a text that is refused
@@ -69,13 +65,3 @@ pub double-answers :
 double-answers limit s before after ss r e h w =
     accepted-answers limit s before after ss (Count r) e
     (room-answers before after (allNumbersOf ss) r (omega (arith, all-numbers-room limit s ss e)) w)
-
--- what a space that was read is
-module _ (limit : ℕ) (s : List ℕ) (r : Space) (h : spaceAs s r ≡ readText limit s) where
-  pub space-accepted : r .ending ≡ ending.Accepted → readText limit s ≡ accepted (statementsIn s r)
-  unfolding spaceAs
-  space-accepted e = sym h ∙ ap (λ (y : Ending). endingAs y (statementsIn s r)) e
-
-  pub space-refused : (x : Refusal) → r .ending ≡ ending.Refused x → readText limit s ≡ refused (x .number) (x .place)
-  unfolding spaceAs
-  space-refused x e = sym h ∙ ap (λ (y : Ending). endingAs y (statementsIn s r)) e

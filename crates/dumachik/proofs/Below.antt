@@ -19,11 +19,14 @@ use Rattle.canonical_laws.proofs.Rereading.{few-statements}
 use Rattle.canonical_laws.proofs.Numbers.{few-numbers}
 use Rattle.canonical_laws.proofs.Rooms.{all-numbers-room}
 use Rattle.claims.proofs.Places.{reading-within}
+use Rattle.profiling.specs.Profile.{Yes, profileText}
+use Rattle.profiling.specs.Refused.{RefusedBy, by-reading, by-profile}
+use Rattle.profiling.proofs.Places.{refused-by}
 use Rattle.statements.specs.Answers.{counted, chosen, nthOf}
 use Rattle.statements.proofs.Found.{found-well}
 use Rattle.statements.specs.Answers.{counting}
 use Rattle.statement_numbers.specs.Answers.{numbered, numbering}
-use Rattle.dumachik.specs.Word.{Below}
+use Rattle.dumachik.specs.Word.{Below, yesAsZero}
 
 -- a text's fault is told within its first 16,384 bytes
 fault-below : (limit : ℕ) (s : List ℕ) (k p : ℕ) → readText limit s ≡ refused k p → p < 4294967296
@@ -71,3 +74,14 @@ statements-below limit room s = fitted room (allNumbered (readText limit s)) (go
     go : (a : Answer (List Statement)) → readText limit s ≡ a → Below (lengthOf (allNumbered a))
     go (accepted ss) e = omega (arith, all-numbers-room limit s ss e, accepted-short limit s ss e)
     go (refused k p) e = fault-below limit s k p e
+
+pub profile-below : (limit : ℕ) (s : List ℕ) → Below (yesAsZero (profileText limit s))
+profile-below limit s = go (profileText limit s) refl
+  where
+    by-cause : {k p : ℕ} → RefusedBy limit s k p → p < 4294967296
+    by-cause {k} {p} (by-reading e) = fault-below limit s k p e
+    by-cause (by-profile ss e l m w) = omega (arith, w, few-statements limit s ss e)
+
+    go : (a : Answer Yes) → profileText limit s ≡ a → Below (yesAsZero a)
+    go (accepted y) e = omega arith
+    go (refused k p) e = by-cause (refused-by limit s k p e)

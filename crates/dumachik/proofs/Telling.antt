@@ -1,9 +1,9 @@
--- Each call's word tells its answer, for every input: a refusal's number is 1 to 21 and its place below 2^32, and so is what is given, or, by
+-- Each call's word tells its answer, for every input: a refusal's number is 1 to 21, or 24 of the profile, and its place below 2^32, and so is what is given, or, by
 -- Resolve, small enough for its bits.
 -- Assumes nothing.
 use Prim.Native.Nat.{ℕ, _+_, _*_, _/_, _%_, _≤_, _<_}
 use native.Mathlib.Omega.{arith}
-use mathlib.Core.Path.{_≡_, refl, _∙_, ap}
+use mathlib.Core.Path.{_≡_, refl, sym, _∙_, ap}
 use mathlib.Core.Bool.{true}
 use mathlib.Core.List.{List}
 use mathlib.Core.Option.{Option, some, none}
@@ -14,39 +14,45 @@ use Rattle.reading.specs.Statement.{Statement}
 use Rattle.reading.specs.Answer.{Answer, accepted, refused}
 use Rattle.reading.specs.Read.{readText}
 use Rattle.reading_laws.specs.WellFormed.{isFault, Gives, given, nothing}
-use Rattle.reading_laws.proofs.Faults.{Anything, either-gives, text-gives, fault-least, fault-most}
+use Rattle.reading_laws.proofs.Giving.{fault-given}
+use Rattle.reading_laws.proofs.Faults.{Anything, either-gives, text-gives, refused-fault, fault-least, fault-most}
 use Rattle.canonical.specs.Print.{lengthOf, fitting, printed, printText}
 use Rattle.canonical.specs.Numbers.{allNumbered, allNumbering}
 use Rattle.resolving.specs.Resolve.{Resolved}
 use Rattle.resolving.specs.Call.{Lengths, lengthsOf, resolveCall}
 use Rattle.resolving_laws.proofs.Faults.{call-gives}
+use Rattle.resolving_laws.proofs.Passed.{refused≢accepted}
 use Rattle.statements.specs.Answers.{counted, counting, chosen, nthOf}
 use Rattle.statement_numbers.specs.Answers.{numbered, numbering}
 use Rattle.records.specs.Words.{lengthsWord, resolvedWord, Small}
 use Rattle.records.proofs.Below.{resolved-small}
-use Rattle.dumachik.specs.Word.{word, Below}
+use Rattle.profiling.specs.Profile.{Yes, profileText}
+use Rattle.profiling.specs.Refused.{RefusedBy, by-reading, by-profile}
+use Rattle.profiling.proofs.Places.{refused-by}
+use Rattle.dumachik.specs.Word.{word, yesAsZero, Below}
 use Rattle.dumachik.specs.Told.{answerIn, lengthsIn, resolvedIn}
-use Rattle.dumachik.proofs.Below.{count-below, print-below, statement-below, statements-below}
+use Rattle.dumachik.proofs.Below.{count-below, print-below, statement-below, statements-below, profile-below}
 
 -- A refusal's number and its place.
 
-module _ (k p : ℕ) (f : isFault k ≡ true) (h : p < 4294967296) where
+module _ (k p : ℕ) (h : p < 4294967296) where
   number-told : (k * 4294967296 + p) / 4294967296 ≡ k
   number-told = omega arith
 
-  byte-told : (k * 4294967296 + p) / 4294967296 % 256 ≡ k
-  byte-told = omega (arith, fault-most k f)
+  byte-told : isFault k ≡ true → (k * 4294967296 + p) / 4294967296 % 256 ≡ k
+  byte-told f = omega (arith, fault-most k f)
 
   place-told : (k * 4294967296 + p) % 4294967296 ≡ p
   place-told = omega arith
 
-  some-number : k ≡ 0 → ⊥
-  some-number e = omega (arith, fault-least k f)
-
 -- An answer by its word.
-told : (a : Answer ℕ) → Gives Anything a → Below a → answerIn (word a) ≡ a
+told : (a : Answer ℕ) → ((k p : ℕ) → a ≡ refused k p → 1 ≤ k) → Below a → answerIn (word a) ≡ a
 told (accepted n) g h = rw (eq-eqb (n / 4294967296) 0 (omega arith))
-told (refused k p) (nothing f) h = rw (number-told k p f h, place-told k p f h, ne-eqb k 0 (some-number k p f h))
+told (refused k p) g h = rw (number-told k p h, place-told k p h, ne-eqb k 0 (λ e. omega (arith, g k p refl)))
+
+-- one that is refused by the number of a fault
+fault-told : (a : Answer ℕ) → Gives Anything a → Below a → answerIn (word a) ≡ a
+fault-told a g h = told a (λ k p e. fault-least k (fault-given g e)) h
 
 -- three lengths, each by its bits
 module _ (n : Lengths) (h : Small (accepted n)) where
@@ -73,7 +79,7 @@ resolved-told (accepted n) g h =
     rw (eq-eqb (lengthsWord n / 4294967296 % 256) 0 (no-number n h), ground-told n h, effects-told n h, notes-told n h)
 resolved-told (refused k p) (nothing f) h =
     let l : p < 4294967296 = omega (arith, h) in
-    rw (byte-told k p f l, place-told k p f l, ne-eqb k 0 (some-number k p f l))
+    rw (byte-told k p l f, place-told k p l, ne-eqb k 0 (λ e. omega (arith, fault-least k f)))
 
 -- What each call answers is refused by the number of a fault, if it is.
 
@@ -112,21 +118,21 @@ lengths-give (nothing e) = nothing e
 -- The words of the calls tell their answers.
 
 pub count-told : (limit : ℕ) (text : List ℕ) → answerIn (word (counting limit text)) ≡ counting limit text
-count-told limit text = told (counting limit text) (counted-gives (text-gives limit text)) (count-below limit text)
+count-told limit text = fault-told (counting limit text) (counted-gives (text-gives limit text)) (count-below limit text)
 
 pub print-told :
     (limit room : ℕ) (text : List ℕ)
     → answerIn (word (lengthOf (fitting room (printText limit text)))) ≡ lengthOf (fitting room (printText limit text))
 unfolding printText
 print-told limit room text =
-    told (lengthOf (fitting room (printText limit text))) (length-gives (fitting-gives room (printed-gives (text-gives limit text)))) (print-below limit room text)
+    fault-told (lengthOf (fitting room (printText limit text))) (length-gives (fitting-gives room (printed-gives (text-gives limit text)))) (print-below limit room text)
 
 pub statement-told :
     (limit room : ℕ) (text : List ℕ) (i : ℕ)
     → i < 4294967296
     → answerIn (word (lengthOf (fitting room (numbering limit text i)))) ≡ lengthOf (fitting room (numbering limit text i))
 statement-told limit room text i h =
-    told (lengthOf (fitting room (numbering limit text i))) (length-gives (fitting-gives room (numbered-gives i (text-gives limit text))))
+    fault-told (lengthOf (fitting room (numbering limit text i))) (length-gives (fitting-gives room (numbered-gives i (text-gives limit text))))
     (statement-below limit room text i h)
 
 pub statements-told :
@@ -134,8 +140,21 @@ pub statements-told :
     → answerIn (word (lengthOf (fitting room (allNumbering limit text)))) ≡ lengthOf (fitting room (allNumbering limit text))
 unfolding allNumbering
 statements-told limit room text =
-    told (lengthOf (fitting room (allNumbering limit text))) (length-gives (fitting-gives room (all-numbered-gives (text-gives limit text))))
+    fault-told (lengthOf (fitting room (allNumbering limit text))) (length-gives (fitting-gives room (all-numbered-gives (text-gives limit text))))
     (statements-below limit room text)
+
+pub profile-told : (limit : ℕ) (text : List ℕ) → answerIn (word (yesAsZero (profileText limit text))) ≡ yesAsZero (profileText limit text)
+profile-told limit text = told (yesAsZero (profileText limit text)) (go (profileText limit text) refl) (profile-below limit text)
+  where
+    by-cause : {k p : ℕ} → RefusedBy limit text k p → 1 ≤ k
+    by-cause {k} {p} (by-reading e) = fault-least k (refused-fault limit text k p e)
+    by-cause (by-profile ss e l m w) = omega (arith, l)
+
+    go : (a : Answer Yes) → profileText limit text ≡ a → (k p : ℕ) → yesAsZero a ≡ refused k p → 1 ≤ k
+    go (accepted y) h k p e = absurd (refused≢accepted (sym e))
+    go (refused n q) h k p e =
+        let z : n ≡ k = cc in
+        omega (arith, by-cause (refused-by limit text n q h), z)
 
 pub resolve-told :
     (limit : ℕ) (block numbers text : List ℕ) (lent : Lengths) (work : ℕ)

@@ -14,9 +14,11 @@ ghost use Rattle.resolving.specs.Call.{resolveCall, lengthsOf, outputOf, workAf
 ghost use Rattle.resolve.specs.Answers.{lent};
 ghost use Rattle.records.specs.Records.{recordOf};
 ghost use Rattle.records.specs.Words.{resolvedWord};
+ghost use Rattle.profiling.specs.Profile.{profileText};
 ghost use Rattle.dumachik.specs.Scan.{strayAt};
-ghost use Rattle.dumachik.specs.Word.{word};
+ghost use Rattle.dumachik.specs.Word.{word, yesAsZero};
 use forms::Refusal;
+use profile::Profiled;
 use records::Effect;
 use render::Printed;
 use statement_numbers::NumbersAt;
@@ -86,6 +88,17 @@ pub extern "C" fn mfl_print(text: &[u8], out: &mut [u8], ceiling: u32) -> u64
     match render::print_under(text, out, ceiling) {
         Printed::Length(n) => n as u64,
         Printed::Refused(refusal) => refusal_word(refusal),
+    }
+}
+
+// The PK-only profile: 0 where a text fits it.
+#[no_mangle]
+pub extern "C" fn mfl_profile(text: &[u8], ceiling: u32) -> u64
+    ensures { λ r. ⌜ r ≡ word (yesAsZero (profileText ceiling (now (text .entry)))) ⌝ }
+{
+    match profile::profile_under(text, ceiling) {
+        Profiled::Fits => 0,
+        Profiled::Refused(refusal) => refusal_word(refusal),
     }
 }
 

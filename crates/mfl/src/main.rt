@@ -1,36 +1,67 @@
 // Reads a search space from a file or from standard input and writes its canonical text and a newline, or `refused`, the fault's number and
 // its place. Where it is refused a person also gets the cause on standard error. Nothing is written on standard output before all was read.
+// With `--profile` it writes `ok` where the space fits the PK-only profile.
 use forms::Refusal;
 use input::Got;
+use profile::Profiled;
 use render::Printed;
 
-// The message for a person.
-fn explain(text: &[u8], page: &mut [u8], refusal: Refusal) {
-    let a = pages::put_all(page, 0, b"mfl: ");
-    let b = text_messages::put_fault(page, a, text, refusal.number, refusal.place);
-    input::write_message(page, b);
+// What is asked about a text.
+enum Asked {
+    Print,
+    Profile,
 }
 
-fn answer(text: &[u8], page: &mut [u8]) {
+// The message for a person: faults from 22 on are the profile's.
+fn explain(text: &[u8], page: &mut [u8], refusal: Refusal) {
+    let a = pages::put_all(page, 0, b"mfl: ");
+    if refusal.number < profile::OUTSIDE_PROFILE {
+        let b = text_messages::put_fault(page, a, text, refusal.number, refusal.place);
+        return input::write_message(page, b);
+    }
+    let b = profile_messages::put_fault(page, a, text, refusal.number, refusal.place);
+    input::write_message(page, b)
+}
+
+fn refuse(text: &[u8], page: &mut [u8], refusal: Refusal) {
+    let n = pages::put_refused(page, refusal.number, refusal.place);
+    input::write_page(b"mfl: ", page, n);
+    explain(text, page, refusal)
+}
+
+fn answer_print(text: &[u8], page: &mut [u8]) {
     match render::print(text, page) {
         Printed::Length(length) => {
             let n = pages::put(page, length, b'\n');
-            input::write_page(b"mfl: ", page, n);
+            input::write_page(b"mfl: ", page, n)
         }
-        Printed::Refused(refusal) => {
-            let n = pages::put_refused(page, refusal.number, refusal.place);
-            input::write_page(b"mfl: ", page, n);
-            explain(text, page, refusal);
+        Printed::Refused(refusal) => refuse(text, page, refusal),
+    }
+}
+
+fn answer_profile(text: &[u8], page: &mut [u8]) {
+    match profile::profile_under(text, 64) {
+        Profiled::Fits => {
+            let n = pages::put_all(page, 0, b"ok\n");
+            input::write_page(b"mfl: ", page, n)
         }
+        Profiled::Refused(refusal) => refuse(text, page, refusal),
+    }
+}
+
+fn answer(asked: Asked, text: &[u8], page: &mut [u8]) {
+    match asked {
+        Asked::Print => answer_print(text, page),
+        Asked::Profile => answer_profile(text, page),
     }
 }
 
 // What was read, answered; a failure was told already.
-fn answer_got(text: &[u8], got: Got, page: &mut [u8]) {
+fn answer_got(asked: Asked, text: &[u8], got: Got, page: &mut [u8]) {
     match got {
         Got::Bytes(n) => {
             let whole = pages::within(n, text);
-            answer(&text[..whole], page);
+            answer(asked, &text[..whole], page)
         }
         Got::Failed => {}
     }
@@ -39,34 +70,49 @@ fn answer_got(text: &[u8], got: Got, page: &mut [u8]) {
 fn usage() {
     io::write_all(
         2,
-        b"mfl: usage: mfl [FILE]\n  writes the canonical text of FILE, or of standard input, or `refused NUMBER PLACE`\n",
+        b"mfl: usage: mfl [--profile] [FILE]\n  writes the canonical text of FILE, or of standard input, or `refused NUMBER PLACE`\n  --profile: writes `ok` where the text fits the PK-only profile, or `refused NUMBER PLACE`\n",
     );
 }
 
 // A file of this name, unless it starts as an option does.
-fn answer_file(path: &[u8], text: &mut [u8], page: &mut [u8]) {
+fn answer_file(asked: Asked, path: &[u8], text: &mut [u8], page: &mut [u8]) {
     if 0 < path.len() {
         if path[0] == b'-' {
             return usage();
         }
     }
     let got = input::read_file(b"mfl: ", path, text);
-    answer_got(text, got, page)
+    answer_got(asked, text, got, page)
 }
 
-fn answer_argument(name: &mut [u8], text: &mut [u8], page: &mut [u8]) {
-    match input::argument(b"mfl: ", 1, name) {
+fn answer_input(asked: Asked, text: &mut [u8], page: &mut [u8]) {
+    let got = input::read_input(b"mfl: ", text);
+    answer_got(asked, text, got, page)
+}
+
+// The file that the argument at an index names, or standard input where it is the argument behind the last. More than one is none.
+fn answer_named(asked: Asked, index: usize, name: &mut [u8], text: &mut [u8], page: &mut [u8]) {
+    let count = os::arg_count();
+    if count <= index {
+        return answer_input(asked, text, page);
+    }
+    if index < count - 1 {
+        return usage();
+    }
+    match input::argument(b"mfl: ", index, name) {
         Got::Bytes(n) => {
             let whole = pages::within(n, name);
-            answer_file(&name[..whole], text, page);
+            answer_file(asked, &name[..whole], text, page)
         }
         Got::Failed => {}
     }
 }
 
-fn answer_input(text: &mut [u8], page: &mut [u8]) {
-    let got = input::read_input(b"mfl: ", text);
-    answer_got(text, got, page)
+// Whether the first argument asks for the profile.
+fn asks_profile(name: &mut [u8]) -> bool {
+    let n = os::arg(1, name);
+    let whole = pages::within(n, name);
+    labels::same_word(&name[..whole], b"--profile")
 }
 
 // The text's buffer holds more than the 16,384 bytes that a text may have: an input that is too long is refused, and not cut.
@@ -74,12 +120,11 @@ fn main() {
     let mut name = io::buffer();
     let mut text = io::large_buffer();
     let mut page = io::large_buffer();
-    let arguments = os::arg_count();
-    if arguments < 2 {
-        return answer_input(&mut text, &mut page);
+    if os::arg_count() < 2 {
+        return answer_input(Asked::Print, &mut text, &mut page);
     }
-    if arguments == 2 {
-        return answer_argument(&mut name, &mut text, &mut page);
+    if asks_profile(&mut name) {
+        return answer_named(Asked::Profile, 2, &mut name, &mut text, &mut page);
     }
-    usage()
+    answer_named(Asked::Print, 1, &mut name, &mut text, &mut page)
 }

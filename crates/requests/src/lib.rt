@@ -4,6 +4,7 @@ use lines::output;
 use lines::words;
 use lines::words::Decoded;
 use lines::words::Numbered;
+use profile::Profiled;
 use render::Printed;
 use statements::CountRead;
 use statements::StatementAt;
@@ -17,6 +18,7 @@ enum Asked {
     Statement(usize),
     Print,
     PrintIn(usize),
+    Profile,
 }
 
 fn answer_count(text: &[u8], ceiling: u32, out: &mut [u8], len: usize) -> usize {
@@ -38,6 +40,13 @@ fn answer_statement(text: &[u8], index: usize, ceiling: u32, out: &mut [u8], len
             statement_lines::put_statement(out, n, value, statement)
         }
         StatementAt::Refused(r) => output::refused(out, len, r.number as usize, r.place),
+    }
+}
+
+fn answer_profile(text: &[u8], ceiling: u32, out: &mut [u8], len: usize) -> usize {
+    match profile::profile_under(text, ceiling) {
+        Profiled::Fits => output::put_all(out, len, b"ok"),
+        Profiled::Refused(r) => output::refused(out, len, r.number as usize, r.place),
     }
 }
 
@@ -78,6 +87,7 @@ fn answer_text(asked: Asked, ceiling: u32, text: &[u8], out: &mut [u8], len: usi
         Asked::Statement(index) => answer_statement(text, index, ceiling, out, len),
         Asked::Print => answer_print(text, 65536, ceiling, b"ok", out, len),
         Asked::PrintIn(room) => answer_print(text, room, ceiling, b"ok -", out, len),
+        Asked::Profile => answer_profile(text, ceiling, out, len),
     }
 }
 
@@ -195,6 +205,9 @@ fn answer_request(line: &[u8], ceiling: u32, text: &mut [u8], out: &mut [u8], le
     }
     if words::begins(line, b"statement") {
         return answer_index(line, 10, ceiling, text, out, len);
+    }
+    if words::begins(line, b"profile") {
+        return answer_hex(Asked::Profile, ceiling, line, 8, text, out, len);
     }
     if words::begins(line, b"resolve") {
         return resolve_lines::answer_resolve(line, 8, ceiling, text, out, len);

@@ -19,11 +19,6 @@ use Rattle.resolving.specs.Resolve.{Resolved, atMostOnce, mergeAndGround, resol
 use Rattle.resolving.specs.Given.{isContext, contextIn, resolveText}
 use Rattle.resolving.specs.Handed.{isRun, givenIn, isHanded, handedContext, resolveHanded}
 use Rattle.resolving.specs.Call.{Lengths, roomFor, resolveCall, workAfter}
-use Rattle.forms.specs.declared.Refusal.{Refusal}
-use Rattle.space.specs.declared.Ending.{Ending}
-use Rattle.space.specs.declared.Ending.the-variants.{Accepted, Refused}
-use Rattle.space.specs.declared.Space.{Space}
-use Rattle.space.specs.Space.{endingAs, spaceAs, statementsIn}
 use Rattle.operands.specs.Entries.{meaningIn}
 use Rattle.collecting.specs.Collected.{CollectedAll}
 use Rattle.collecting.proofs.Meaning.{collected-meaning}
@@ -53,16 +48,6 @@ by-run : (t x : Bool) (a : Answer (List Statement)) (f : List Statement → Answ
     ≡ (a >>= (λ ss. cond (t && x) (f ss) (refused wrongContext 0)))
 by-run true x a f = refl
 by-run false x a f = refl
-
--- what reading answers, by how the space ends
-module _ (limit : ℕ) (s : List ℕ) (r : Space) (h : spaceAs s r ≡ readText limit s) where
-  pub read-accepted : r .ending ≡ Accepted → readText limit s ≡ accepted (statementsIn s r)
-  unfolding spaceAs
-  read-accepted e = sym h ∙ ap (λ (y : Ending). endingAs y (statementsIn s r)) e
-
-  pub read-refused : (x : Refusal) → r .ending ≡ Refused x → readText limit s ≡ refused (x .number) (x .place)
-  unfolding spaceAs
-  read-refused x e = sym h ∙ ap (λ (y : Ending). endingAs y (statementsIn s r)) e
 
 module _ (b l : List ℕ) (ss : List Statement) where
   pub wrong-handed : isHanded b l ≡ false → cond (isHanded b l) (resolve (handedContext b l) ss) (refused 12 0) ≡ refused 12 0

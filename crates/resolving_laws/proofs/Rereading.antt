@@ -22,7 +22,7 @@ use Rattle.reading_laws.proofs.Joining.{accepted-admitted}
 use Rattle.reading_laws.proofs.WellRead.{text-well-formed}
 use Rattle.canonical.specs.Canonical.{canonical}
 use Rattle.canonical.specs.Print.{printed, printText}
-use Rattle.canonical_laws.specs.Forgotten.{ReadAs}
+use Rattle.canonical_laws.specs.Forgotten.{forget, ReadAs}
 use Rattle.canonical_laws.proofs.Forgetting.{canonical-forgets}
 use Rattle.canonical_laws.proofs.Rereading.{rereads}
 use Rattle.resolving.specs.Lists.{any, isNil}
@@ -110,6 +110,7 @@ written-named c good g w = (
 pub record Reread (limit : ℕ) (c : Context) (r : Resolved) : Type 0 where
   pub statements : List Statement
   pub read : readText limit (groundText r) ≡ accepted statements
+  pub as-ground : map forget statements ≡ map forget (r .statements)
   pub prints : printText limit (groundText r) ≡ accepted (groundText r)
   pub result : Resolved
   pub resolves : resolve c statements ≡ accepted result
@@ -201,6 +202,7 @@ module _ (limit : ℕ) (c : Context) where
         record {
           statements = a .statements;
           read = a .read;
+          as-ground = a .same;
           prints =
               ap printed (a .read)
               ∙ ap accepted

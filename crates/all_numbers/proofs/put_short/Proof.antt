@@ -2,7 +2,8 @@
 -- Assumes nothing.
 use denote.Ref.{now}
 use borrow.Author.Needs.{needs}
-use Rattle.all_numbers.proofs.Answering.{refused-answers, accepted-answers, space-accepted, space-refused}
+use Rattle.space.proofs.Endings.{read-accepted, read-refused}
+use Rattle.all_numbers.proofs.Answering.{refused-answers, accepted-answers}
 use Rattle.all_numbers.proofs.put_short.Statement.{statement}
 use Rattle.all_numbers.proofs.put_short.Tie as tie
 
@@ -12,7 +13,7 @@ put-measured-requires c κs =
     let k = x .before .before in
     let s = k .before .before .before in
     let h = k .read-space .ensures in
-    (s .pre .0, h .1, record { limit = s .args .limit; read = space-accepted _ _ (k .read-space .result) (h .0) (x .enum-told .given .1) })
+    (s .pre .0, h .1, record { limit = s .args .limit; read = read-accepted _ _ (k .read-space .result) (h .0) (x .enum-told .given .1) })
 
 returns : tie.Need-returns
 returns c =
@@ -20,7 +21,7 @@ returns c =
     let k = x .before .before in
     let a = k .before .before .before .args in
     refused-answers (a .limit) (now (a .text)) (now (a .out)) (x .ending .given .0 .0)
-    (space-refused _ _ (k .read-space .result) (k .read-space .ensures .0) (x .ending .given .0 .0) (x .ending .given .1))
+    (read-refused _ _ (k .read-space .result) (k .read-space .ensures .0) (x .ending .given .0 .0) (x .ending .given .1))
 
 returns-2 : tie.Need-returns-2
 returns-2 c =
@@ -29,7 +30,7 @@ returns-2 c =
     let k = x .before .before in
     let a = k .before .before .before .args in
     accepted-answers (a .limit) (now (a .text)) (now (a .out)) _ _ (p .put-measured .result)
-    (space-accepted _ _ (k .read-space .result) (k .read-space .ensures .0) (x .enum-told .given .1))
+    (read-accepted _ _ (k .read-space .result) (k .read-space .ensures .0) (x .enum-told .given .1))
     (p .put-measured .ensures)
 
 pub put-short-spec : {M : Type 1} → statement M

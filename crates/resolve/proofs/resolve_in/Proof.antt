@@ -7,10 +7,11 @@ use Rattle.labels.specs.Label.{labelsOf, keywords}
 use Rattle.labels.specs.Table.{labelTable, keywordTable}
 use Rattle.reading_laws.specs.Admitted.{Admitted}
 use Rattle.statements.specs.Answers.{AdmissionAs}
+use Rattle.space.proofs.Endings.{read-accepted, read-refused}
 use Rattle.space.proofs.Fitting.{space-fits}
 use Rattle.resolve.specs.Answers.{resolvedAs}
 use Rattle.resolve.proofs.Answering.{refused-answers, same-answers}
-use Rattle.resolve.proofs.Calling.{read-accepted, read-refused, accepted-handed, refused-handed}
+use Rattle.resolve.proofs.Calling.{accepted-handed, refused-handed}
 use Rattle.resolve.proofs.resolve_in.Statement.{statement}
 use Rattle.resolve.proofs.resolve_in.Tie as tie
 

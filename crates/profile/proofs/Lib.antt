@@ -1,0 +1,4 @@
+pub mod HighCounts
+pub mod Marks
+pub mod Judging
+pub mod Answering

@@ -1,0 +1,5 @@
+pub mod Examples
+pub mod Passing
+pub mod Exact
+pub mod Places
+pub mod GroundPasses

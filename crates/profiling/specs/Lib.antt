@@ -1,0 +1,3 @@
+pub mod Profile
+pub mod Inside
+pub mod Refused
