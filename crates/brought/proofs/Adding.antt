@@ -154,6 +154,12 @@ pub record Taken {A : Type 0} (f : A → Answer Brought) (mean : Form → A) (fo
   pub stay : t .stays ≤ i
   pub noted : t .dropped ≤ i
 
+-- And the ground statements of those that stay were written.
+pub record Texted {A : Type 0} (f : A → Answer Brought) (mean : Form → A) (forms : List Form) (count i : ℕ) (ts₀ ds₀ : List ℕ) (t : Tally)
+    (ts ds out₀ out : List ℕ) : Type 0 where
+  pub taken : Taken f mean forms count i ts₀ ds₀ t ts ds
+  pub text : Written out₀ 0 (restOf 0 (gather staying (taken .what))) out (t .ground)
+
 module _ {A : Type 0} (f : A → Answer Brought) (mean : Form → A) (forms : List Form) (count : ℕ) where
   pub none-taken : (ts ds : List ℕ) → Taken f mean forms count 0 ts ds nothing ts ds
   none-taken ts ds = record {
@@ -167,6 +173,11 @@ module _ {A : Type 0} (f : A → Answer Brought) (mean : Form → A) (forms : Li
     stay = omega arith;
     noted = omega arith;
   }
+
+module _ {A : Type 0} (f : A → Answer Brought) (mean : Form → A) (forms : List Form) (count : ℕ) where
+  pub none-texted : (ts ds out : List ℕ) → Texted f mean forms count 0 ts ds nothing ts ds out out
+  unfolding none-taken
+  none-texted ts ds out = record { taken = none-taken f mean forms count ts ds; text = nothing-written out 0 }
 
 stay-one : (b : Brought) → length (staying b) ≤ 1
 stay-one defining = omega arith
@@ -186,13 +197,12 @@ module _ {A : Type 0} {f : A → Answer Brought} {mean : Form → A} {forms : Li
     next : map mean (slice i count forms) ≡ mean (getD forms i d) ∷ map mean (slice (suc i) count forms)
     next = ap (map mean) (slice-cons i count forms d h w)
 
-    pub one-taken : {b : Brought} {u : Tally} {ts' ds' : List ℕ}
+    taken-next : {b : Brought} {u : Tally} {ts' ds' : List ℕ}
         → f (mean (getD forms i d)) ≡ accepted b
         → Adds b i t ts ds u ts' ds'
-        → Taken f mean forms count (i + 1) ts₀ ds₀ u ts' ds'
-    one-taken {b} {u} {ts'} {ds'} e a =
-        subst (λ (k : ℕ). Taken f mean forms count k ts₀ ds₀ u ts' ds') (sym (add-one i))
-        (record {
+        → Taken f mean forms count (suc i) ts₀ ds₀ u ts' ds'
+    taken-next {b} {u} {ts'} {ds'} e a =
+        record {
           what = g .what ++ b ∷ [];
           many = omega (arith, g .many, length-append (g .what) (b ∷ []));
           each =
@@ -205,6 +215,34 @@ module _ {A : Type 0} {f : A → Answer Brought} {mean : Form → A} {forms : Li
           small = omega (arith, g .small, a .small, a .ground);
           stay = omega (arith, g .stay, a .stays, stay-one b);
           noted = omega (arith, g .noted, a .dropped .next, note-one i b);
+        }
+
+    pub one-taken : {b : Brought} {u : Tally} {ts' ds' : List ℕ}
+        → f (mean (getD forms i d)) ≡ accepted b
+        → Adds b i t ts ds u ts' ds'
+        → Taken f mean forms count (i + 1) ts₀ ds₀ u ts' ds'
+    one-taken {b} {u} {ts'} {ds'} e a =
+        subst (λ (k : ℕ). Taken f mean forms count k ts₀ ds₀ u ts' ds') (sym (add-one i)) (taken-next e a)
+
+    -- what one more prints
+    pub one-texted : {b : Brought} {u : Tally} {ts' ds' out₀ out out' : List ℕ}
+        → Written out₀ 0 (restOf 0 (gather staying (g .what))) out (t .ground)
+        → f (mean (getD forms i d)) ≡ accepted b
+        → Adds b i t ts ds u ts' ds'
+        → Written out (t .ground) (restOf (t .stays) (staying b)) out' (u .ground)
+        → Texted f mean forms count (i + 1) ts₀ ds₀ u ts' ds' out₀ out'
+    unfolding taken-next
+    one-texted {b} {u} {ts'} {ds'} {out₀} {out} {out'} v e a w =
+        let m : t .stays ≡ 0 + length (gather staying (g .what)) = omega (arith, g .added .stays) in
+        subst (λ (k : ℕ). Texted f mean forms count k ts₀ ds₀ u ts' ds' out₀ out') (sym (add-one i))
+        (record {
+          taken = taken-next e a;
+          text =
+              subst (λ (l : List ℕ). Written out₀ 0 l out' (u .ground))
+              (ap (λ (k : ℕ). restOf 0 (gather staying (g .what)) ++ restOf k (staying b)) m
+              ∙ sym (rest-append 0 (gather staying (g .what)) (staying b))
+              ∙ sym (ap (restOf 0) (staying-last b (g .what))))
+              (written-on v w);
         })
 
     pub fault-taken : (k : ℕ) → f (mean (getD forms i d)) ≡ refused k 0 → eachFrom f 0 (map mean (slice 0 count forms)) ≡ refused k i

@@ -7,13 +7,15 @@ use mathlib.Core.Path.{_≡_, refl, _∙_, ap, sym, subst}
 use mathlib.Core.List.{List, [], _∷_, _++_, map, append-nil}
 use lib.ListN.{length, length-append}
 use Rattle.reading.specs.Answer.{Answer, accepted, refused}
-use Rattle.reading.specs.Statement.{feature}
+use Rattle.reading.specs.Statement.{Statement, feature}
 use Rattle.writing.specs.Written.{Written}
 use Rattle.writing.proofs.Writing.{nothing-written}
 use Rattle.render.specs.Text.{pieceOf}
 use Rattle.resolving.specs.Brought.{Brought, defining, dropped, stays, brings}
 use Rattle.resolving_laws.specs.Flat.{term}
 use Rattle.merging.specs.Packing.{termOf}
+use Rattle.resolving.specs.Ground.{staying}
+use Rattle.render.proofs.Pieces.{restOf}
 use Rattle.bringing.specs.Stays.{Stood}
 use Rattle.bringing.specs.Terms.{Termed}
 use Rattle.brought.specs.declared.Tally.{Tally}
@@ -102,3 +104,45 @@ module _ {a : Answer Brought} (i : ℕ) (t : Tally) where
           small = omega arith;
         };
   }
+
+-- The ground text of those that stay: what one statement adds to it.
+
+accepted-one : {x y : Brought} → accepted x ≡ accepted y → x ≡ y
+accepted-one {x} e = ap (λ (a : Answer Brought). orElse a) e
+  where
+    orElse : Answer Brought → Brought
+    orElse (accepted z) = z
+    orElse (refused k p) = x
+
+module _ {a : Answer Brought} (n : ℕ) {at : ℕ} {before after : List ℕ} {r : ℕ} where
+  pub prints-known : {x : Brought}
+      → a ≡ accepted x
+      → Written before at (restOf n (staying x)) after r
+      → (b : Brought) → a ≡ accepted b → Written before at (restOf n (staying b)) after r
+  prints-known e w b h =
+      subst (λ (y : Brought). Written before at (restOf n (staying y)) after r) (accepted-one (sym e ∙ h)) w
+
+  pub prints-stood : Stood a n before at after r → (b : Brought) → a ≡ accepted b → Written before at (restOf n (staying b)) after r
+  prints-stood w =
+      prints-known (w .brought)
+      (subst (λ (l : List ℕ). Written before at l after r) (sym (append-nil (pieceOf n (feature (w .left))))) (w .written))
+
+  -- nothing, where the text is as it was
+  pub prints-dropped : a ≡ accepted dropped → after ≡ before → r ≡ at → (b : Brought) → a ≡ accepted b → Written before at (restOf n (staying b)) after r
+  prints-dropped e f g = prints-known e (unchanged f g)
+
+none-of : (l : List Statement) → length l ≡ 0 → l ≡ []
+none-of [] e = refl
+none-of (x ∷ l) e = absurd (omega (arith, e))
+
+-- a statement of which nothing stays prints nothing
+pub prints-none : {a : Answer Brought} {i : ℕ} {t u : Tally} {ts ds ts' ds' out : List ℕ}
+    → Brings a i t ts ds u ts' ds'
+    → u .stays ≡ t .stays
+    → u .ground ≡ t .ground
+    → (b : Brought) → a ≡ accepted b → Written out (t .ground) (restOf (t .stays) (staying b)) out (u .ground)
+prints-none {a} {i} {t} {u} {ts} {ds} {ts'} {ds'} {out} w e f =
+    let z : length (staying (w .what)) ≡ 0 = omega (arith, e, w .adds .stays) in
+    prints-known (t .stays) (w .brought)
+    (subst (λ (l : List Statement). Written out (t .ground) (restOf (t .stays) l) out (u .ground)) (sym (none-of (staying (w .what)) z))
+    (unchanged refl f))

@@ -55,6 +55,16 @@ unfoldable pub BringAs : Answer Brought → ℕ → Tally → List ℕ → List 
 BringAs a i t ts ds ts' ds' (step.Next u) = Brings a i t ts ds u ts' ds'
 BringAs a i t ts ds ts' ds' (step.Refused k) = a ≡ refused k 0
 
+-- what it adds to the ground text of those that stay
+unfoldable pub PrintsAs : Answer Brought → Tally → List ℕ → List ℕ → Step → Type 0
+PrintsAs a t out out' (step.Next u) = (b : Brought) → a ≡ accepted b → Written out (t .ground) (restOf (t .stays) (staying b)) out' (u .ground)
+PrintsAs a t out out' (step.Refused k) = Unit {0}
+
+-- nothing of it stays
+unfoldable pub NoneStays : Tally → Step → Type 0
+NoneStays t (step.Next u) = (u .stays ≡ t .stays) × (u .ground ≡ t .ground)
+NoneStays t (step.Refused k) = Unit {0}
+
 -- What all of them add.
 pub record Added (bs : List Brought) (ts ds : List ℕ) (u : Tally) (ts' ds' : List ℕ) : Type 0 where
   pub numbers : List ℕ

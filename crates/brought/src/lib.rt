@@ -19,7 +19,7 @@ ghost use Rattle.space.specs.Space.{Whole, statementsIn};
 ghost use Rattle.space.specs.Fit.{Fit, FitAll};
 ghost use Rattle.bringing.specs.Stays.{isCovariate, Short};
 ghost use Rattle.bringing.specs.Terms.{SmallForms};
-ghost use Rattle.brought.specs.Tallies.{Noted, BringAs, AllAs};
+ghost use Rattle.brought.specs.Tallies.{Noted, BringAs, PrintsAs, NoneStays, AllAs};
 ghost use Rattle.brought.specs.Printed.{PutAs, StayFew, StaysPut};
 use bringing::Stay;
 use context::Layout;
@@ -93,6 +93,7 @@ fn bring_terms(
         (meaningIn (now (text .entry)) (now (lets .entry)) n (handedContext (now (block .entry)) (now (lists .entry))))
         (Covariate optional (operandIn (now (text .entry)) parameters) (operandIn (now (text .entry)) covariates) (modesIn effects) (opAs op)))
         index tally (now (terms .entry)) (now (dropped .entry)) (now (terms .exit)) (now (dropped .exit)) r ⌝ }
+    ensures { λ r. ⌜ NoneStays tally r ⌝ }
 {
     match bringing::bring_covariate(
         text,
@@ -122,7 +123,7 @@ fn bring_terms(
     }
 }
 
-// What another feature adds. Its ground statement is only measured: `out` has no room.
+// What another feature adds. Its ground statement is written where `out` has room, and only measured where it has none.
 fn bring_other(
     text: &[u8],
     classes: &Classes,
@@ -147,6 +148,9 @@ fn bring_other(
         (meaningIn (now (text .entry)) (now (lets .entry)) n (handedContext (now (block .entry)) (now (lists .entry))))
         (featureIn (now (text .entry)) feature))
         index tally terms (now (dropped .entry)) terms (now (dropped .exit)) r) ⌝ }
+    ensures { λ r. ⌜ PrintsAs (bringFeature (handedContext (now (block .entry)) (now (lists .entry)))
+        (meaningIn (now (text .entry)) (now (lets .entry)) n (handedContext (now (block .entry)) (now (lists .entry))))
+        (featureIn (now (text .entry)) feature)) tally (now (out .entry)) (now (out .exit)) r ⌝ }
 {
     match bringing::ground_feature(
         text,
@@ -175,7 +179,7 @@ fn bring_other(
 }
 
 // What the statement at an index adds.
-fn bring_one(
+pub fn bring_one(
     text: &[u8],
     classes: &Classes,
     labels: &Labels,
@@ -200,6 +204,9 @@ fn bring_one(
         (meaningIn (now (text .entry)) (now (lets .entry)) n (handedContext (now (block .entry)) (now (lists .entry))))
         (statementIn (now (text .entry)) statement))
         index tally (now (terms .entry)) (now (dropped .entry)) (now (terms .exit)) (now (dropped .exit)) r ⌝ }
+    ensures { λ r. ⌜ PrintsAs (bring·spec (handedContext (now (block .entry)) (now (lists .entry)))
+        (meaningIn (now (text .entry)) (now (lets .entry)) n (handedContext (now (block .entry)) (now (lists .entry))))
+        (statementIn (now (text .entry)) statement)) tally (now (out .entry)) (now (out .exit)) r ⌝ }
 {
     match statement {
         Statement::Let { .. } => Step::Next(tally),

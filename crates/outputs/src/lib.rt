@@ -1,4 +1,4 @@
-// What Resolve writes besides the ground text: effects and notes, and zeros into the working buffer.
+// What Resolve writes: a ground text that was made elsewhere, effects and notes, and zeros into the working buffer.
 ghost use mathlib.Core.Path.{_≡_};
 ghost use mathlib.Core.Bool.{cond};
 ghost use mathlib.Core.List.{[], _∷_, _++_, map};
@@ -63,6 +63,18 @@ pub fn put_notes(notes: &mut [[u8; 2]], dropped: &[u8], count: usize, additive: 
 {
     put_dropped(notes, dropped, count);
     put_additive(notes, count, additive);
+}
+
+// The first so many bytes of a text.
+pub fn put_text(out: &mut [u8], text: &[u8], count: usize)
+    requires { ⌜ (count ≤ length (now out)) × (count ≤ length (now text)) ⌝ }
+    ensures { λ _. ⌜ now (out .exit) ≡ take count (now (text .entry)) ++ drop count (now (out .entry)) ⌝ }
+{
+    let mut i = 0;
+    while i < count {
+        out[i] = text[i];
+        i += 1;
+    }
 }
 
 // Zeros all over a buffer.

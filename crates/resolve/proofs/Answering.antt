@@ -95,3 +95,17 @@ module _ {g : List ℕ} {e : ℕ} {n : List (List ℕ)} where
 
       turned : roomFor (rooms g e n) (accepted x) ≡ accepted x
       turned = ap (λ (y : Bool). cond y (refused 19 0) (accepted x)) fine
+
+-- lengths that are equal, one by one
+pub lengths-same : {g g' e e' n n' : ℕ} → g ≡ g' → e ≡ e' → n ≡ n'
+    → _≡_ {A = call.Lengths} (record { ground = g; effects = e; notes = n }) (record { ground = g'; effects = e'; notes = n' })
+lengths-same p q r = rw (p, q, r) refl
+
+-- an answer where the outputs were as they are at the start
+pub answers-back : {a : Answer definition.Resolved} {g₀ g g' : List ℕ} {e : ℕ} {n₀ n n' : List (List ℕ)} {w' : List ℕ} (r : Resolved)
+    → g ≡ g₀
+    → n ≡ n₀
+    → Answers a g e n g' n' w' r
+    → Answers a g₀ e n₀ g' n' w' r
+answers-back {a} {g₀} {g} {g'} {e} {n₀} {n} {n'} {w'} r h k x =
+    subst (λ (y : List ℕ). Answers a y e n₀ g' n' w' r) h (subst (λ (y : List (List ℕ)). Answers a g e y g' n' w' r) k x)

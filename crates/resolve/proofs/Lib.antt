@@ -4,3 +4,4 @@ pub mod Grounds
 pub mod Measured
 pub mod Packed
 pub mod Settling
+pub mod Short

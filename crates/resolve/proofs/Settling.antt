@@ -142,7 +142,7 @@ notes-most i (stays f ∷ bs) = omega (arith, notes-most (suc i) bs)
 notes-most i (brings x es ∷ bs) = omega (arith, notes-most (suc i) bs)
 
 -- what was written from 0 on, where there is room, stands there
-front-stands : {before bs after : List ℕ} {r : ℕ} → Written before 0 bs after r → length bs ≤ length before → take r after ≡ bs
+pub front-stands : {before bs after : List ℕ} {r : ℕ} → Written before 0 bs after r → length bs ≤ length before → take r after ≡ bs
 front-stands {before} {bs} {after} {r} w h =
     let e : r ≡ length bs = omega (arith, w .next) in
     ap (λ (k : ℕ). take k after) e

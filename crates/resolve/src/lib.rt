@@ -19,12 +19,15 @@ ghost use Rattle.space.specs.Fit.{FitAll};
 ghost use Rattle.resolving.specs.Resolve.{groundText};
 ghost use Rattle.outputs.specs.Entries.{additiveNote};
 ghost use Rattle.resolve.specs.Answers.{Answers, Packed, resolvedAs, effectsIn, rooms, lent};
+ghost use Rattle.reading_laws.specs.Admitted.{Admitted};
 ghost use Rattle.resolve.specs.Stages.{GroundPut, BroughtThere, Grounding, grounded, settled};
+ghost use Rattle.resolve.specs.Short.{FewThere, FewGrounding, FewAnswers};
 use brought::AllBrought;
 use brought::Tally;
 use collecting::Collected;
 use context::Checked;
 use context::Layout;
+use few::FewBrought;
 use forms::Refusal;
 use labels::Keywords;
 use labels::Labels;
@@ -439,6 +442,225 @@ fn resolve_read(
     }
 }
 
+// The answer of a short text, if it has one here: `resolve_in` answers any text, and so all that is refused.
+pub enum Few {
+    Lengths(Lengths),
+    Other,
+}
+
+// The answer of grouped effects, where what stays was written already: the groups are written behind it, and all is put out if there is room.
+fn put_few(
+    block: &[u8],
+    classes: &Classes,
+    lists: &[u32],
+    labels: &Labels,
+    keys: &Keywords,
+    layout: Layout,
+    tally: Tally,
+    dropped: &[u8],
+    count: usize,
+    groups: usize,
+    made: &mut [u8],
+    ground: &mut [u8],
+    room: usize,
+    notes: &mut [[u8; 2]],
+    work: &[u32],
+) -> Few
+    requires { ⌜ (now classes ≡ classTable) × (now labels ≡ labelTable) × (now keys ≡ keywordTable) × Stands (now block) (now lists) layout
+        × FewGrounding (handedContext (now block) (now lists)) tally (now dropped) (now work) count groups (now made) ⌝ }
+    ensures { λ r. ⌜ ((g : FewGrounding (handedContext (now (block .entry)) (now (lists .entry))) tally (now (dropped .entry)) (now (work .entry))
+        count groups (now (made .entry)))
+        → FewAnswers (grounded (handedContext (now (block .entry)) (now (lists .entry))) (g .known .what)) (now (ground .entry)) room (now (notes .entry))
+        (now (ground .exit)) (now (notes .exit)) (now (work .entry)) r) ⌝ }
+{
+    if 256 < tally.stays + groups {
+        return Few::Other;
+    }
+    let end = group_text::put_groups(
+        block,
+        classes,
+        lists,
+        labels,
+        keys,
+        layout,
+        work,
+        count,
+        groups,
+        tally.stays,
+        made,
+        tally.ground,
+    );
+    if made.len() < end {
+        return Few::Other;
+    }
+    let additive = merging::additive(work, count);
+    let remarks = note_count(tally.dropped, additive);
+    if ground.len() < end {
+        return Few::Other;
+    }
+    if room < count {
+        return Few::Other;
+    }
+    if notes.len() < remarks {
+        return Few::Other;
+    }
+    outputs::put_text(ground, made, end);
+    outputs::put_notes(notes, dropped, tally.dropped, additive);
+    Few::Lengths(Lengths {
+        ground: end,
+        effects: count,
+        notes: remarks,
+    })
+}
+
+// The answer of what few statements bring. So few terms that to take them again, if there is no answer here, costs little.
+fn settle_few(
+    block: &[u8],
+    classes: &Classes,
+    lists: &[u32],
+    labels: &Labels,
+    keys: &Keywords,
+    layout: Layout,
+    tally: Tally,
+    dropped: &[u8],
+    made: &mut [u8],
+    ground: &mut [u8],
+    room: usize,
+    notes: &mut [[u8; 2]],
+    work: &mut [u32],
+) -> Few
+    requires { ⌜ (now classes ≡ classTable) × (now labels ≡ labelTable) × (now keys ≡ keywordTable) × Stands (now block) (now lists) layout
+        × FewThere (handedContext (now block) (now lists)) tally (now dropped) (now work) (now made) ⌝ }
+    ensures { λ r. ⌜ ((b : FewThere (handedContext (now (block .entry)) (now (lists .entry))) tally (now (dropped .entry)) (now (work .entry))
+        (now (made .entry)))
+        → FewAnswers (definition.mergeAndGround (handedContext (now (block .entry)) (now (lists .entry))) (b .there .what)) (now (ground .entry)) room
+        (now (notes .entry)) (now (ground .exit)) (now (notes .exit)) (now (work .exit)) r) ⌝ }
+{
+    if 256 < tally.terms {
+        return Few::Other;
+    }
+    let Outcome::Effects(count) = merging::settle(work, tally.terms) else {
+        return Few::Other;
+    };
+    let Grouped::Groups(groups) = merging::group(work, count) else {
+        return Few::Other;
+    };
+    put_few(
+        block,
+        classes,
+        lists,
+        labels,
+        keys,
+        layout,
+        tally,
+        dropped,
+        count,
+        groups,
+        made,
+        ground,
+        room,
+        notes,
+        work,
+    )
+}
+
+// The answer of a text of few statements, in a context that was checked.
+fn resolve_few(
+    text: &[u8],
+    classes: &Classes,
+    labels: &Labels,
+    keys: &Keywords,
+    block: &[u8],
+    lists: &[u32],
+    layout: Layout,
+    ground: &mut [u8],
+    room: usize,
+    notes: &mut [[u8; 2]],
+    work: &mut [u32],
+    limit: u32,
+) -> Few
+    requires { ⌜ (now classes ≡ classTable) × (now labels ≡ labelTable) × (now keys ≡ keywordTable) × Stands (now block) (now lists) layout
+        × Admitted limit (now text) × (6656 ≤ length (now work)) ⌝ }
+    ensures { λ r. ⌜ FewAnswers (resolveHanded limit (now (block .entry)) (now (lists .entry)) (now (text .entry)))
+        (now (ground .entry)) room (now (notes .entry))
+        (now (ground .exit)) (now (notes .exit)) (now (work .exit)) r ⌝ }
+{
+    let mut dropped = [0; 256];
+    let mut made = [0; 2048];
+    let FewBrought::Tally(tally) = few::bring_few(
+        text,
+        classes,
+        labels,
+        keys,
+        block,
+        lists,
+        layout,
+        limit,
+        work,
+        &mut dropped,
+        &mut made,
+    ) else {
+        return Few::Other;
+    };
+    settle_few(
+        block,
+        classes,
+        lists,
+        labels,
+        keys,
+        layout,
+        tally,
+        &dropped,
+        &mut made,
+        ground,
+        room,
+        notes,
+        work,
+    )
+}
+
+// The answer of a short text.
+fn resolve_short(
+    text: &[u8],
+    classes: &Classes,
+    labels: &Labels,
+    keys: &Keywords,
+    block: &[u8],
+    lists: &[u32],
+    ground: &mut [u8],
+    room: usize,
+    notes: &mut [[u8; 2]],
+    work: &mut [u32],
+    limit: u32,
+) -> Few
+    requires { ⌜ (now classes ≡ classTable) × (now labels ≡ labelTable) × (now keys ≡ keywordTable)
+        × Admitted limit (now text) × (6656 ≤ length (now work)) ⌝ }
+    ensures { λ r. ⌜ FewAnswers (resolveHanded limit (now (block .entry)) (now (lists .entry)) (now (text .entry)))
+        (now (ground .entry)) room (now (notes .entry))
+        (now (ground .exit)) (now (notes .exit)) (now (work .exit)) r ⌝ }
+{
+    if 1024 < text.len() {
+        return Few::Other;
+    }
+    let Checked::Context(layout) = context::check(block, classes, lists) else {
+        return Few::Other;
+    };
+    resolve_few(
+        text,
+        classes,
+        labels,
+        keys,
+        block,
+        lists,
+        layout,
+        ground,
+        room,
+        notes,
+        work,
+        limit,
+    )
+}
+
 // The answer, with a working buffer that is long enough.
 fn resolve_in(
     text: &[u8],
@@ -464,6 +686,24 @@ fn resolve_in(
     let classes = tokens::CLASSES;
     let labels = labels::LABELS;
     let keys = labels::KEYWORDS;
+    match resolve_short(
+        text,
+        &classes,
+        &labels,
+        &keys,
+        block,
+        lists,
+        ground,
+        room,
+        notes,
+        work,
+        limit,
+    ) {
+        Few::Lengths(n) => {
+            return Resolved::Lengths(n);
+        }
+        Few::Other => {}
+    }
     let space = space::read_space(text, &classes, &labels, &keys, limit);
     let ending = space.ending;
     match ending {

@@ -45,30 +45,30 @@ one-shorter ss k d h =
       spelled-length (textShapes ss),
     )
 
-module _ (limit : ℕ) (s : List ℕ) (r : Space) (w : Whole r) (e : readText limit s ≡ accepted (statementsIn s r)) where
+module _ (limit : ℕ) (s : List ℕ) (forms : List Form) (count : ℕ) (held : count ≤ length forms)
+    (e : readText limit s ≡ accepted (map (formIn s) (take count forms))) where
+  abbrev kept : List Statement
+  kept = map (formIn s) (take count forms)
+
   -- the statement at an index
-  this-one : (d : Form) (k : ℕ) → k < r .count → getD (statementsIn s r) k (formIn s d) ≡ formIn s (getD (r .forms) k d)
-  this-one d k h =
-      List·getD-map (formIn s) (take (r .count) (r .forms)) k d ∙ ap (formIn s) (getD-take (r .count) (r .forms) k d h)
+  this-one : (d : Form) (k : ℕ) → k < count → getD kept k (formIn s d) ≡ formIn s (getD forms k d)
+  this-one d k h = List·getD-map (formIn s) (take count forms) k d ∙ ap (formIn s) (getD-take count forms k d h)
 
-  as-many : length (statementsIn s r) ≡ r .count
-  as-many =
-      length-map (take (r .count) (r .forms)) (formIn s) ∙ length-take-le (r .count) (r .forms) (omega (arith, w .wide, w .few))
+  as-many : length kept ≡ count
+  as-many = length-map (take count forms) (formIn s) ∙ length-take-le count forms held
 
-  pub space-fits : FitAll s r
-  space-fits d k h =
-      let q : k < length (statementsIn s r) = omega (arith, h, as-many) in
+  pub forms-fit : (d : Form) (k : ℕ) → k < count → Fit s (getD forms k d .statement)
+  forms-fit d k h =
+      let q : k < length kept = omega (arith, h, as-many) in
       record {
         limit = limit;
         read =
             subst (λ (x : Statement). asRead limit (length s) x ≡ true) (this-one d k h)
-            (all-at (asRead limit (length s)) (statementsIn s r) k (formIn s d) (text-as-read limit s (statementsIn s r) e) q);
+            (all-at (asRead limit (length s)) kept k (formIn s d) (text-as-read limit s kept e) q);
         short =
             subst (λ (x : Statement). length (spellAll (statementShapes x)) ≤ 16384) (this-one d k h)
-            (omega (
-              arith,
-              one-shorter (statementsIn s r) k (formIn s d) q,
-              not-longer limit s (statementsIn s r) e,
-              accepted-short limit s (statementsIn s r) e,
-            ));
+            (omega (arith, one-shorter kept k (formIn s d) q, not-longer limit s kept e, accepted-short limit s kept e));
       }
+
+pub space-fits : (limit : ℕ) (s : List ℕ) (r : Space) → Whole r → readText limit s ≡ accepted (statementsIn s r) → FitAll s r
+space-fits limit s r w e = forms-fit limit s (r .forms) (r .count) (omega (arith, w .wide, w .few)) e

@@ -82,7 +82,7 @@ loop-again c =
     let x = c .before .next in
     let b = c .before .before .before .before .before .before .before .before .before in
     let t = b .before .before .before .before .before in
-    let h = subst (BringAs _ _ _ _ _ _ _) (x .given .1) (b .bring-one .ensures) in
+    let h = subst (BringAs _ _ _ _ _ _ _) (x .given .1) (b .bring-one .ensures .0) in
     let i = t .before .loop .inv in (
       one-taken (i .0) _ (t .loop-test .taken) (inside t .1) (h .brought) (h .adds),
       search (needs, i .1),
@@ -96,7 +96,7 @@ returns c =
     let x = c .before .number in
     let b = c .before .before .before .before .before .before .before .before .before in
     let t = b .before .before .before .before .before in
-    let h = subst (BringAs _ _ _ _ _ _ _) (x .given .1) (b .bring-one .ensures) in
+    let h = subst (BringAs _ _ _ _ _ _ _) (x .given .1) (b .bring-one .ensures .0) in
     fault-taken (t .before .loop .inv .0) _ (t .loop-test .taken) (inside t .1) (x .given .0 .0) h
 
 returns-2 : tie.Need-returns-2 Inv-loop μ-loop

@@ -1,6 +1,8 @@
 -- `brought::bring_one` meets its contract, statement by statement.
 -- Assumes nothing.
+use Prim.Native.Nat.{ℕ}
 use mathlib.Core.Path.{_≡_, refl, _∙_, ap, sym, subst}
+use mathlib.Core.List.{List}
 use denote.Ref.{now}
 use borrow.Author.Needs.{needs}
 use Rattle.forms.specs.declared.Statement as forms
@@ -8,10 +10,15 @@ use Rattle.forms.specs.declared.Statement.the-variants as statementForm
 use Rattle.forms.specs.declared.Feature as features
 use Rattle.forms.specs.declared.Feature.the-variants as form
 use Rattle.forms.specs.Forms.{featureIn, statementIn}
-use Rattle.resolving.specs.Brought.{bring}
+use Rattle.reading.specs.Answer.{Answer}
+use Rattle.writing.proofs.Writing.{nothing-written}
+use Rattle.resolving.specs.Brought.{Brought, defining, bring}
 use Rattle.space.specs.Fit.{Fit}
-use Rattle.brought.specs.Tallies.{BringAs}
-use Rattle.brought.proofs.Stepping.{nothing-added}
+use Rattle.brought.specs.declared.Tally.{Tally}
+use Rattle.brought.specs.declared.Step.{Step}
+use Rattle.brought.specs.declared.Step.the-variants as steps
+use Rattle.brought.specs.Tallies.{BringAs, PrintsAs, NoneStays}
+use Rattle.brought.proofs.Stepping.{nothing-added, prints-known, prints-none}
 use Rattle.brought.proofs.Fitting.{covariate-fits, feature-fits, feature-short, not-covariate}
 use Rattle.brought.proofs.bring_one.Statement.{statement}
 use Rattle.brought.proofs.bring_one.Tie as tie
@@ -53,11 +60,22 @@ bring-other-requires c κs =
       s .pre .10,
     )
 
+-- a COVARIATE prints nothing
+of-terms : (a : Answer Brought) (i : ℕ) (t : Tally) (ts ds ts' ds' out : List ℕ) (r : Step)
+    → BringAs a i t ts ds ts' ds' r
+    → NoneStays t r
+    → PrintsAs a t out out r
+unfolding BringAs NoneStays PrintsAs
+of-terms a i t ts ds ts' ds' out (steps.Next u) w e = prints-none w (e .0) (e .1)
+of-terms a i t ts ds ts' ds' out (steps.Refused k) w e = tt
+
 returns : tie.Need-returns
-unfolding BringAs bring statementIn
+unfolding BringAs PrintsAs bring statementIn
 returns c =
-    let s = c .before .before .before .before .before .before .before .before .before in
-    nothing-added (s .args .index) (s .args .tally) (now (s .args .terms)) (now (s .args .dropped)) (rw (c .enum-told .given .1) refl)
+    let s = c .before .before .before .before .before .before .before .before .before in (
+      nothing-added (s .args .index) (s .args .tally) (now (s .args .terms)) (now (s .args .dropped)) (rw (c .enum-told .given .1) refl),
+      prints-known (s .args .tally .stays) {x = defining} (rw (c .enum-told .given .1) refl) (nothing-written _ _),
+    )
 
 returns-2 : tie.Need-returns-2
 unfolding bring statementIn featureIn
@@ -65,7 +83,7 @@ returns-2 c =
     let b = c .before .before .before .before in
     let x = b .before .before .before .before in
     let f = x .before .before .before .statement in
-    rw (f .given .1, x .feature .given .1) (b .bring-terms .ensures)
+    rw (f .given .1, x .feature .given .1) (b .bring-terms .ensures .0, of-terms _ _ _ _ _ _ _ _ _ (b .bring-terms .ensures .0) (b .bring-terms .ensures .1))
 
 returns-3 : tie.Need-returns-3
 unfolding bring statementIn
@@ -74,7 +92,7 @@ returns-3 c =
     let k = b .before .before .before .before in
     let f = k .before .statement in
     let s = k .before .before .before .before .before .before .before .before .before .before in
-    rw (f .given .1) (b .bring-other .ensures (now (s .args .terms)))
+    rw (f .given .1) (b .bring-other .ensures .0 (now (s .args .terms)), b .bring-other .ensures .1)
 
 pub bring-one-spec : {M : Type 1} → statement M
 bring-one-spec =

@@ -5,8 +5,8 @@ use native.Mathlib.Omega.{arith}
 use denote.Ref.{now}
 use borrow.Author.Needs.{needs}
 use Rattle.bringing.specs.Stays.{StayAs}
-use Rattle.brought.specs.Tallies.{BringAs}
-use Rattle.brought.proofs.Stepping.{statement-added, dropped-added}
+use Rattle.brought.specs.Tallies.{BringAs, PrintsAs}
+use Rattle.brought.proofs.Stepping.{statement-added, dropped-added, prints-stood, prints-dropped}
 use Rattle.brought.proofs.bring_other.Statement.{statement}
 use Rattle.brought.proofs.bring_other.Tie as tie
 
@@ -26,29 +26,30 @@ note-requires c κs =
     (s .pre .8, s .pre .11)
 
 returns : tie.Need-returns
-unfolding BringAs StayAs
-returns c ts =
+unfolding BringAs StayAs PrintsAs
+returns c =
     let x = c .before .before .next in
     let b = c .before .before .before .before .before .before in
     let s = b .before .before .before .before .before .before .before .before in
-    statement-added (s .args .index) (s .args .tally) ts (now (s .args .dropped)) (subst (StayAs _ _ _ _ _) (x .given .1) (b .ground-feature .ensures))
+    let h = subst (StayAs _ _ _ _ _) (x .given .1) (b .ground-feature .ensures) in
+    (λ ts. statement-added (s .args .index) (s .args .tally) ts (now (s .args .dropped)) h, prints-stood (s .args .tally .stays) h)
 
 returns-2 : tie.Need-returns-2
-unfolding BringAs StayAs
-returns-2 c ts =
+unfolding BringAs StayAs PrintsAs
+returns-2 c =
     let m = c .before .before in
     let x = m .before .before .enum-told in
     let b = m .before .before .before .before .before .before in
     let s = b .before .before .before .before .before .before .before .before in
     let h = subst (StayAs _ _ _ _ _) (x .given .1) (b .ground-feature .ensures) in
-    dropped-added (s .args .index) (s .args .tally) (h .0) refl (m .note .ensures)
+    (λ ts. dropped-added (s .args .index) (s .args .tally) (h .0) refl (m .note .ensures), prints-dropped (s .args .tally .stays) (h .0) (h .1) (m .note .ensures .ground))
 
 returns-3 : tie.Need-returns-3
-unfolding BringAs StayAs
-returns-3 c ts =
+unfolding BringAs StayAs PrintsAs
+returns-3 c =
     let x = c .before .number in
     let b = c .before .before .before .before .before in
-    subst (StayAs _ _ _ _ _) (x .given .1) (b .ground-feature .ensures) .0
+    (λ ts. subst (StayAs _ _ _ _ _) (x .given .1) (b .ground-feature .ensures) .0, tt)
 
 pub bring-other-spec : {M : Type 1} → statement M
 bring-other-spec =

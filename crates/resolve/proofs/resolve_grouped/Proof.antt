@@ -16,7 +16,6 @@ use Rattle.resolving.specs.Brought.{Brought, bring, eachFrom}
 use Rattle.resolving.specs.Handed.{handedContext}
 use Rattle.resolving.specs.Resolve as definition
 use Rattle.resolving.specs.Resolve.{outcome, groundText}
-use Rattle.resolving.specs.Call as call
 use Rattle.resolving.specs.Call.{noteNumbers}
 use Rattle.operands.specs.Entries.{meaningIn}
 use Rattle.space.specs.Space.{statementsIn}
@@ -25,7 +24,7 @@ use Rattle.outputs.specs.Entries.{additiveNote}
 use Rattle.resolve.specs.declared.Resolved.{Resolved}
 use Rattle.resolve.specs.Answers.{resolvedAs, Answers}
 use Rattle.resolve.specs.Stages.{grounded}
-use Rattle.resolve.proofs.Answering.{refused-answers, short-ground, short-effects, short-notes, room-answers}
+use Rattle.resolve.proofs.Answering.{refused-answers, short-ground, short-effects, short-notes, room-answers, lengths-same}
 use Rattle.resolve.proofs.Grounds.{many-grounded, long-grounded, fine-grounded}
 use Rattle.resolve.proofs.Measured.{statements-are, text-long, effects-are, effects-many, notes-put, notes-many}
 use Rattle.resolve.proofs.resolve_grouped.Statement.{statement}
@@ -168,11 +167,6 @@ put-notes-requires c κs =
     let q = n .before .before in
     let s = q .before .before .before .before .before .before .before .before .before .before .before .before .before .before in
     (omega (arith, f .if5 .left, n .note-count .ensures), s .pre .7 .tallied .held)
-
--- lengths that are equal, one by one
-lengths-same : {g g' e e' n n' : ℕ} → g ≡ g' → e ≡ e' → n ≡ n'
-    → _≡_ {A = call.Lengths} (record { ground = g; effects = e; notes = n }) (record { ground = g'; effects = e'; notes = n' })
-lengths-same p q r = rw (p, q, r) refl
 
 returns-6 : tie.Need-returns-6
 unfolding resolvedAs
