@@ -1,3 +1,4 @@
 pub mod Holding
 pub mod Going
 pub mod Sources
+pub mod Bringing

@@ -14,6 +14,7 @@ ghost use Rattle.context.specs.Lists.{namesIn, Sound, Stands, foundAs, covariat
 ghost use Rattle.symbols.specs.Lets.{LetsFit};
 ghost use Rattle.symbols.specs.Sources.{sourceList, SourceFits, LookedFits};
 ghost use Rattle.symbols.specs.Named.{runOf, spelledIn, spellings, Usable};
+ghost use Rattle.symbols.specs.Brings.{listOf, brings, broughtBy};
 ghost use Rattle.operands.specs.Picked.{chosen, standsIn, withIndex, Whole, Picks, heldAs};
 ghost use Rattle.operands.specs.Entries.{entriesAs, StandsFor, parameterNames, covariateNames, parametersIn, covariatesIn};
 use context::Found;
@@ -21,6 +22,7 @@ use context::Layout;
 use context::Names;
 use forms::Name;
 use forms::Operand;
+use symbols::Brought;
 use symbols::Looked;
 use symbols::Named;
 use symbols::Of;
@@ -135,6 +137,75 @@ pub fn hold(text: &[u8], block: &[u8], lists: &[u32], named: Named, target: Name
     }
 }
 
+// One index more, unless it stands there already; and how many there are then.
+fn push_index(indexes: &mut [u8; 64], count: usize, index: u8) -> usize
+    requires { ⌜ (length (now indexes) ≡ 64) × (count < 64) ⌝ }
+    ensures { λ r. ⌜ (length (now (indexes .exit)) ≡ 64) × (take r (now (indexes .exit)) ≡ withIndex (take count (now (indexes .entry))) index)
+        × (r ≤ count + 1) ⌝ }
+{
+    if among(indexes, count, index) {
+        return count;
+    }
+    indexes[count] = index;
+    count + 1
+}
+
+// What a source has in the block, each name held to a list as it is brought, or that one is not there. So no array of pairs is made of them.
+fn hold_block(block: &[u8], lists: &[u32], layout: Layout, source: Source, target: Names) -> Held
+    requires { ⌜ Stands (now block) (now lists) layout × Sound (now block) (now lists) target ⌝ }
+    ensures { λ r. ⌜ Picks (target .count) (r .list)
+        × (heldAs r ≡ held (namesIn (now (block .entry)) (now (lists .entry)) target)
+        (accepted (broughtBy (brings (now (block .entry)) (now (lists .entry)) layout source) (listOf layout source .count)))) ⌝ }
+{
+    let names = symbols::list_of(layout, source);
+    let count = names.count;
+    let mut indexes = [0; 64];
+    let mut n = 0;
+    let mut i = 0;
+    while i < count {
+        match symbols::bring(block, lists, layout, source, i) {
+            Brought::Pair(name) => {
+                match context::index_of(block, lists, target, symbols::spelling(block, name)) {
+                    Found::Place(place) => {
+                        n = push_index(&mut indexes, n, place as u8);
+                        i += 1;
+                    }
+                    Found::Nothing => {
+                        return Held {
+                            missing: true,
+                            list: Picked { count: n, indexes },
+                        };
+                    }
+                }
+            }
+            Brought::Nothing => {
+                i += 1;
+            }
+        }
+    }
+    Held {
+        missing: false,
+        list: Picked { count: n, indexes },
+    }
+}
+
+// What is held, as it is answered.
+fn entries_held(held: Held) -> Entries
+    ensures { λ r. ⌜ (r .list ≡ held .list) × (entriesAs r ≡ heldAs held) ⌝ }
+{
+    let list = held.list;
+    if held.missing {
+        return Entries {
+            fault: UNKNOWN_NAME,
+            list,
+        };
+    }
+    Entries {
+        fault: NO_FAULT,
+        list,
+    }
+}
+
 // The names of a source held to a list.
 fn entries_of(
     text: &[u8],
@@ -151,19 +222,11 @@ fn entries_of(
         × (entriesAs r ≡ held (namesIn (now (block .entry)) (now (lists .entry)) target)
         (accepted (sourceList (handedContext (now (block .entry)) (now (lists .entry))) (now (text .entry)) source))) ⌝ }
 {
+    let Source::Values(items) = source else {
+        return entries_held(hold_block(block, lists, layout, source, target));
+    };
     let named = symbols::names_of(text, classes, block, lists, layout, source);
-    let held = hold(text, block, lists, named, target);
-    let list = held.list;
-    if held.missing {
-        return Entries {
-            fault: UNKNOWN_NAME,
-            list,
-        };
-    }
-    Entries {
-        fault: NO_FAULT,
-        list,
-    }
+    entries_held(hold(text, block, lists, named, target))
 }
 
 fn unknown_symbol() -> Entries

@@ -74,7 +74,7 @@ pub enum Looked {
 }
 
 // What an entry of a list brings: a name of the block, or none.
-enum Brought {
+pub enum Brought {
     Pair(Name),
     Nothing,
 }
@@ -334,7 +334,7 @@ fn no_list() -> Names
 }
 
 // The list whose entries a source takes.
-fn list_of(layout: Layout, source: Source) -> Names
+pub fn list_of(layout: Layout, source: Source) -> Names
     ensures { λ r. ⌜ r ≡ listOf layout source ⌝ }
 {
     match source {
@@ -349,7 +349,7 @@ fn list_of(layout: Layout, source: Source) -> Names
 }
 
 // What an entry of the source's list brings.
-fn bring(block: &[u8], lists: &[u32], layout: Layout, source: Source, index: usize) -> Brought
+pub fn bring(block: &[u8], lists: &[u32], layout: Layout, source: Source, index: usize) -> Brought
     requires { ⌜ Stands (now block) (now lists) layout × (index < listOf layout source .count) ⌝ }
     ensures { λ r. ⌜ Yields (now (block .entry)) (brings (now (block .entry)) (now (lists .entry)) layout source index) r ⌝ }
 {
