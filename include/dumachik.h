@@ -1,12 +1,12 @@
-/* Dumachik's calls: MFL texts counted, printed, given by value and resolved. `rt staticlib dumachik` proves them and writes
- * target/staticlib/libdumachik.a, for x86-64. Of other libraries it needs memcpy and memset alone.
+/* Dumachik's calls: MFL texts counted, printed, given by value, held to the PK-only profile and resolved. `rt staticlib dumachik` proves them and
+ * writes target/staticlib/libdumachik.a, for x86-64. Of other libraries it needs memcpy and memset alone.
  *
  * No call allocates, keeps state or copies the text, and only mfl_resolve takes a working buffer. Any bytes may be given: a text need not be
  * UTF-8, and bytes of 128 and more may stand only in a comment. No output may overlap another or an input. Where a length is 0 its pointer is
  * not read, but must not be null.
  *
  * Limits: 16,384 bytes of text, 256 statements, 64 entries of an array. The stack that a call takes at most, whatever it is given
- * (docs/BENCHMARKS.md): mfl_resolve 93,256 bytes, mfl_statements 43,560, mfl_print 25,720, the others under 4 KiB.
+ * (docs/BENCHMARKS.md): mfl_resolve 93,256 bytes, mfl_statements 43,560, mfl_profile 43,384, mfl_print 25,720, the others under 4 KiB.
  *
  * Every call that reads statements takes a ceiling, last: the largest count that a text may have, from 0 to 256. Held to it are single counts,
  * both ends of a range wherever one stands, and the entries of an array of counts; not names that are numbers, and not ALLOMETRY's reference.
@@ -40,6 +40,9 @@
  *       too short                                                         0
  *   20  statement index not below the count                               the index
  *   21  ceiling above 256; before 1                                       0
+ *   22  feature outside the PK-only profile                               the statement's index
+ *   23  second statement of one of the profile's five features            the statement's index
+ *   24  count above 10, against the profile                               the statement's index
  */
 #ifndef DUMACHIK_H
 #define DUMACHIK_H
@@ -58,6 +61,9 @@ extern "C" {
 
 /* The ceiling of the source, and of the programs. */
 #define MFL_CEILING 64
+
+/* The largest count of the PK-only profile. */
+#define MFL_PROFILE_COUNT 10
 
 /* mfl_statement never writes more numbers (proved). COVARIATE with two lists of 64 names and all seven effects has as many. */
 #define MFL_STATEMENT_ROOM 272
@@ -133,6 +139,13 @@ uint64_t mfl_statement(const uint8_t *text, size_t length, uint32_t index, uint3
  * many they are, and how many all are. `out` past them is as it was, and all of it where the call refuses, by 19 where `room` is shorter than
  * the answer. Two for each byte of the text always suffice (proved). */
 uint64_t mfl_statements(const uint8_t *text, size_t length, uint32_t *out, size_t room, uint32_t ceiling);
+
+/* Profile: 0 where a text is read under the ceiling and is of the PK-only profile, else the refusal; nothing is written. The profile has no
+ * DIRECTEFFECT, EFFECTCOMP, INDIRECTEFFECT or METABOLITE, at most one statement each of ABSORPTION, ELIMINATION, PERIPHERALS, TRANSITS and
+ * LAGTIME, and no count above 10: a single one, the right end of a range, an entry of an array; N is no count. 21 and the faults of reading, 1
+ * to 11, come first; then, of the first statement that has one, 22 before 23 before 24, with its index, from zero, LETs counted. 23 is at the
+ * second statement of its feature. Where a text of the profile has a ground text, that is of the profile too, under the same ceiling. */
+uint64_t mfl_profile(const uint8_t *text, size_t length, uint32_t ceiling);
 
 /* An effect: the parameter and the covariate, each the index of its name's first entry in its list (declared covariates, or data columns
  * without a block), the form by its place in COVARIATE's family, the operator (0 `*`, 1 `+`), and whether it is optional (0 or 1). */

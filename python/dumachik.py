@@ -13,6 +13,13 @@ A count is at most 64, unless a call is given another ceiling, from 0 to 256:
     Traceback (most recent call last):
     dumachik.Refusal: 4 at 15 (line 1, column 16): count not a whole 32-bit number, or above the ceiling
 
+Whether a space is of the PK-only profile:
+
+    >>> dumachik.profile("ABSORPTION([FO,ZO]);TRANSITS(0..10)")
+    >>> dumachik.profile("LET(SIZE,WT);METABOLITE(PSC)")
+    Traceback (most recent call last):
+    dumachik.Refusal: 22 at 1 (statement 1): feature outside the PK-only profile
+
 One file over a shared library, with ctypes alone. `tools/shared-library` makes the library; it is looked for beside this file and in the
 repository's target/staticlib, or where DUMACHIK_SO says.
 """
@@ -22,7 +29,7 @@ import os
 import pathlib
 from typing import NamedTuple
 
-__all__ = ["count", "render", "statements", "resolve", "Context", "Effect", "Note", "Refusal", "Resolved", "Statement", "Symbol"]
+__all__ = ["count", "render", "statements", "profile", "resolve", "Context", "Effect", "Note", "Refusal", "Resolved", "Statement", "Symbol"]
 
 # The limits that texts and answers have; a count's is the source's, where no other ceiling is given.
 MAX_TEXT = 16384
@@ -53,9 +60,12 @@ MEANINGS = {
     19: "an output shorter than its answer; a working buffer shorter than the call's stated length",
     20: "statement index not below the count",
     21: "ceiling above 256",
+    22: "feature outside the PK-only profile",
+    23: "second statement of a feature that the PK-only profile has once",
+    24: "count above 10, the highest of the PK-only profile",
 }
 # Those whose place is the index of a statement, and those that have none but 0.
-OF_STATEMENTS = (13, 14, 15, 16, 17, 20)
+OF_STATEMENTS = (13, 14, 15, 16, 17, 20, 22, 23, 24)
 OF_ALL = (1, 12, 18, 19, 21)
 
 VARIABILITY = ("EXP", "ADD", "PROP", "LOG", "RE_LOG")
@@ -175,6 +185,7 @@ def _load():
         "mfl_count": [text, size, ctypes.c_uint32],
         "mfl_print": [text, size, text, size, ctypes.c_uint32],
         "mfl_statements": [text, size, numbers, size, ctypes.c_uint32],
+        "mfl_profile": [text, size, ctypes.c_uint32],
         "mfl_resolve": [text, size, text, size, numbers, size, text, size, ctypes.POINTER(_Effect), size, ctypes.POINTER(_Note), size]
         + [numbers, size, ctypes.c_uint32],
     }
@@ -230,6 +241,16 @@ def statements(text, *, ceiling=MAX_COUNT):
     numbers = iter(out[: _answered(_library.mfl_statements(text, len(text), out, room, _number(ceiling)), text)])
     # each statement stands behind how many numbers it has
     return [_statement(numbers, text) for _ in numbers]
+
+
+def profile(text, *, ceiling=MAX_COUNT):
+    """None where a text is of the PK-only profile; else it raises the Refusal, with the index of the statement that stands in the way.
+
+    The profile has no DIRECTEFFECT, EFFECTCOMP, INDIRECTEFFECT or METABOLITE, at most one statement each of ABSORPTION, ELIMINATION,
+    PERIPHERALS, TRANSITS and LAGTIME, and no count above 10.
+    """
+    text = _bytes(text)
+    _answered(_library.mfl_profile(text, len(text), _number(ceiling)), text)
 
 
 def _statement(numbers, text):

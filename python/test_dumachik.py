@@ -118,5 +118,44 @@ ground = dumachik.resolve("transits(0256);IIV(@PK,EXP)", K, ceiling=256).ground
 check("a ground text", ground, "TRANSITS(256);IIV([CL,V,KA],EXP)")
 check("a ground text again", dumachik.resolve(ground, K, ceiling=256).ground, ground)
 refused("a ground text under 64", lambda: dumachik.count(ground), 4, 9, 1, 10, None)
+
+# The profile: what it has, each of its faults at its statement's index with LETs counted, and what comes before them.
+FIVE = ["ABSORPTION(FO)", "ELIMINATION(MM)", "PERIPHERALS(1)", "TRANSITS(n)", "LAGTIME(ON)"]
+OUTSIDE = ["DIRECTEFFECT(EMAX)", "EFFECTCOMP(*)", "INDIRECTEFFECT(*,PRODUCTION)", "METABOLITE(PSC)"]
+OTHERS = ["LET(A,11)", "COVARIATE?(CL,WT,lin)", "ALLOMETRY(WT,70)", "IIV(11,EXP)", "IOV(*,EXP)", "COVARIANCE(IIV,[11,12])"]
+
+
+def against(what, text, number, index, **named):
+    refused(what, lambda: dumachik.profile(text, **named), number, index, None, None, index)
+
+
+for text in ["", b"# \xff", ";".join(FIVE), ";".join(OTHERS + OTHERS), ";".join(OTHERS + FIVE)]:
+    check(f"profile of {text}", dumachik.profile(text), None)
+for feature in OUTSIDE:
+    against(feature, feature, 22, 0)
+    against(feature, f"LET(A,B);LAGTIME(ON)\nLET(C,D);{feature};LAGTIME(ON)", 22, 3)
+for feature, other in zip(FIVE, FIVE[1:] + FIVE[:1]):
+    against(f"{feature} twice", f"{feature};{feature}", 23, 1)
+    against(f"{feature} twice", f"LET(A,B);{feature};{other};IIV(CL,EXP);{feature.lower()};{feature}", 23, 4)
+for keyword in ("PERIPHERALS", "TRANSITS"):
+    for form in ("({})", "(000{})", "(0..{})", "(10..{})", "([{}])", "([0,{},1])", "([{},0],*)"):
+        check(f"{keyword}: 10", dumachik.profile(keyword + form.format(10)), None)
+        against(f"{keyword}: 11", keyword + form.format(11), 24, 0)
+        against(f"{keyword}: 64", f"LET(A,B);LAGTIME(ON);{keyword}{form.format(64)}", 24, 2)
+against("the first statement", "TRANSITS(11);METABOLITE(PSC)", 24, 0)
+against("22 before 23 and 24", "METABOLITE(PSC);METABOLITE(PSC);TRANSITS(11)", 22, 0)
+against("23 before 24", "TRANSITS(1);TRANSITS(11)", 23, 1)
+refused("a fault of reading", lambda: dumachik.profile("METABOLITE(PSC)\nLAGTIME(MAYBE)"), 10, 24, 2, 9, None)
+refused("a long text", lambda: dumachik.profile("METABOLITE(PSC)" + " " * 16384), 1, 0, None, None, None)
+for ceiling in (3, 10, 11, 64, 256):
+    over = lambda: dumachik.profile("PERIPHERALS(11)", ceiling=ceiling)
+    refused(f"11 under {ceiling}", over, *((24, 0, None, None, 0) if ceiling > 10 else (4, 12, 1, 13, None)))
+    check(f"a count under {ceiling}", dumachik.profile(f"TRANSITS({min(10, ceiling)})", ceiling=ceiling), None)
+    against(f"23 under {ceiling}", "LAGTIME(ON);LAGTIME(ON)", 23, 1, ceiling=ceiling)
+for ceiling in (257, 2**32 + 64):
+    for text in ("", "METABOLITE(PSC)", "$", " " * 16385):
+        refused(f"profile under {ceiling}", lambda: dumachik.profile(text, ceiling=ceiling), 21, 0, None, None, None)
+ground = dumachik.resolve("LET(S,[CL,V]);transits([3,10]);IIV(@S,*);COVARIATE?(@PK,*,*);LAGTIME(*)", K).ground
+check("the ground text of a text of the profile", dumachik.profile(ground), None)
 print(f"{passed} passed, {failed} failed")
 sys.exit(failed != 0)

@@ -3,7 +3,7 @@ use std::path::PathBuf;
 use std::{env, fs, process};
 
 /// Every call that this crate makes; an older library may lack one.
-const CALLS: [&str; 6] = ["mfl_scan", "mfl_count", "mfl_print", "mfl_statement", "mfl_statements", "mfl_resolve"];
+const CALLS: [&str; 7] = ["mfl_scan", "mfl_count", "mfl_print", "mfl_statement", "mfl_statements", "mfl_profile", "mfl_resolve"];
 
 fn main() {
     let beside = || PathBuf::from(env!("CARGO_MANIFEST_DIR")).join("../target/staticlib");

@@ -10,6 +10,7 @@ mod library {
         pub fn mfl_print(text: *const u8, length: usize, out: *mut u8, room: usize, ceiling: u32) -> u64;
         pub fn mfl_statement(text: *const u8, length: usize, index: u32, out: *mut u32, room: usize, ceiling: u32) -> u64;
         pub fn mfl_statements(text: *const u8, length: usize, out: *mut u32, room: usize, ceiling: u32) -> u64;
+        pub fn mfl_profile(text: *const u8, length: usize, ceiling: u32) -> u64;
         pub fn mfl_resolve(
             text: *const u8,
             length: usize,
@@ -85,6 +86,24 @@ pub fn statements_into(text: &[u8], out: &mut [u32]) -> Result<usize, Refusal> {
 pub fn statements_into_under(text: &[u8], out: &mut [u32], ceiling: u32) -> Result<usize, Refusal> {
     // SAFETY: as above.
     answered(unsafe { library::mfl_statements(text.as_ptr(), text.len(), out.as_mut_ptr(), out.len(), ceiling) })
+}
+
+/// Profile: whether a text is of the PK-only profile, which has no DIRECTEFFECT, EFFECTCOMP, INDIRECTEFFECT or METABOLITE, at most one statement
+/// each of ABSORPTION, ELIMINATION, PERIPHERALS, TRANSITS and LAGTIME, and no count above [`MAX_PROFILE_COUNT`](crate::MAX_PROFILE_COUNT). What
+/// is not read is refused as by [`count`]; then the first statement that is against the profile, by [`Fault::OutsideProfile`],
+/// [`Fault::SecondStatement`] or [`Fault::CountAboveTen`], with its index.
+///
+/// [`Fault::OutsideProfile`]: crate::Fault::OutsideProfile
+/// [`Fault::SecondStatement`]: crate::Fault::SecondStatement
+/// [`Fault::CountAboveTen`]: crate::Fault::CountAboveTen
+pub fn profile(text: &[u8]) -> Result<(), Refusal> {
+    profile_under(text, MAX_COUNT)
+}
+
+/// [`profile`] with a ceiling for counts. A ground text of a text of the profile is of the profile under the same ceiling.
+pub fn profile_under(text: &[u8], ceiling: u32) -> Result<(), Refusal> {
+    // SAFETY: as above.
+    answered(unsafe { library::mfl_profile(text.as_ptr(), text.len(), ceiling) }).map(|_| ())
 }
 
 /// How many elements Resolve's working buffer has to have.

@@ -2,7 +2,8 @@
 //!
 //! [`Mfl`] is a space that was accepted; its statements are a tree with the names of ferx-core's mfl.rs. [`resolve()`] gives it in a
 //! [`ModelContext`], with the names of resolve.rs. What is refused is refused by a number and a place, [`Refusal`]. The calls themselves are
-//! there on slices: [`scan`], [`count`], [`print_into`], [`statement_into`], [`statements_into`], [`resolve_into`]; they allocate nothing.
+//! there on slices: [`scan`], [`count`], [`print_into`], [`statement_into`], [`statements_into`], [`profile`], [`resolve_into`]; they allocate
+//! nothing.
 //!
 //! ```
 //! use dumachik::{Counts, Fault, Feature, Mfl, Statement};
@@ -36,6 +37,20 @@
 //! assert_eq!((refusal.fault, refusal.number(), refusal.place), (Fault::CeilingTooHigh, 21, 0));
 //! # Ok::<(), dumachik::Refusal>(())
 //! ```
+//!
+//! [`Mfl::profile`] says whether a space is of the PK-only profile, or which statement is against it; [`profile`] says so of a text.
+//!
+//! ```
+//! use dumachik::{profile, Fault, Mfl};
+//!
+//! assert_eq!(profile(b"ABSORPTION([FO,ZO]);PERIPHERALS(0..2);TRANSITS(N)"), Ok(()));
+//! let refusal = profile(b"LET(SIZE,WT);PERIPHERALS(1);METABOLITE(PSC)").unwrap_err();
+//! assert_eq!((refusal.fault, refusal.number(), refusal.statement()), (Fault::OutsideProfile, 22, Some(2)));
+//! assert_eq!(refusal.to_string(), "MFL: 22 at statement 2: feature outside the PK-only profile");
+//! assert_eq!(profile(b"LAGTIME(ON);LAGTIME(OFF)").unwrap_err().fault, Fault::SecondStatement);
+//! assert_eq!(Mfl::parse("TRANSITS(0..11)")?.profile().unwrap_err().fault, Fault::CountAboveTen);
+//! # Ok::<(), dumachik::Refusal>(())
+//! ```
 #![deny(unsafe_op_in_unsafe_fn, missing_debug_implementations)]
 
 mod calls;
@@ -51,8 +66,9 @@ use std::hash::{Hash, Hasher};
 use std::sync::OnceLock;
 
 pub use calls::{
-    count, count_under, print_into, print_into_under, resolve_into, resolve_into_under, scan, statement_into, statement_into_under,
-    statements_into, statements_into_under, Buffers, Effect, Lengths, NoteNumbers, MAX_EFFECTS, MAX_NOTES, STATEMENT_ROOM, WORKING,
+    count, count_under, print_into, print_into_under, profile, profile_under, resolve_into, resolve_into_under, scan, statement_into,
+    statement_into_under, statements_into, statements_into_under, Buffers, Effect, Lengths, NoteNumbers, MAX_EFFECTS, MAX_NOTES,
+    STATEMENT_ROOM, WORKING,
 };
 pub use context::{CovariateKind, Handed, ModelContext, PkTemplate};
 pub use refusal::{Fault, Refusal};
@@ -72,6 +88,8 @@ pub const MAX_ENTRIES: usize = 64;
 pub const MAX_COUNT: u32 = 64;
 /// The highest ceiling for counts.
 pub const MAX_CEILING: u32 = 256;
+/// The largest count of the PK-only profile.
+pub const MAX_PROFILE_COUNT: u32 = 10;
 
 /// Statement: the statement of a text at an index, from zero. Each call reads the whole text; [`Mfl::statements`] is for all of them.
 pub fn statement(text: &[u8], index: u32) -> Result<Statement, Refusal> {
@@ -167,6 +185,11 @@ impl Mfl {
     /// The ceiling that the text was read under.
     pub fn ceiling(&self) -> u32 {
         self.ceiling
+    }
+
+    /// Whether it is of the PK-only profile ([`profile`]), under its ceiling.
+    pub fn profile(&self) -> Result<(), Refusal> {
+        profile_under(&self.text, self.ceiling)
     }
 
     /// The number of statements.

@@ -2,8 +2,9 @@
 
 use std::{error, fmt};
 
-/// A fault and its place: an offset in bytes of the text from zero; a statement's index for [`Fault::NoSuchStatement`] and for the faults of
-/// resolving from [`Fault::SecondLet`] to [`Fault::ForcedTwice`] ([`Refusal::statement`]); and 0 for the others.
+/// A fault and its place: an offset in bytes of the text from zero; a statement's index for [`Fault::NoSuchStatement`], for the faults of
+/// resolving from [`Fault::SecondLet`] to [`Fault::ForcedTwice`] and for those of the profile, from [`Fault::OutsideProfile`] on
+/// ([`Refusal::statement`]); and 0 for the others.
 #[derive(Debug, Clone, Copy, PartialEq, Eq, Hash)]
 pub struct Refusal {
     pub fault: Fault,
@@ -12,7 +13,7 @@ pub struct Refusal {
 
 macro_rules! faults {
     ($($(#[$meta:meta])* $name:ident = $number:literal, $message:literal;)+) => {
-        /// The faults of reading, printing and resolving; `as u32` gives the number.
+        /// The faults of reading, printing, resolving and the profile; `as u32` gives the number.
         #[derive(Debug, Clone, Copy, PartialEq, Eq, Hash)]
         #[non_exhaustive]
         pub enum Fault {
@@ -59,6 +60,9 @@ faults! {
     OutputTooShort = 19, "an output shorter than its answer; a working buffer shorter than the call's stated length";
     NoSuchStatement = 20, "statement index not below the count";
     CeilingTooHigh = 21, "ceiling above 256";
+    OutsideProfile = 22, "feature outside the PK-only profile";
+    SecondStatement = 23, "second statement of a feature that the PK-only profile has once";
+    CountAboveTen = 24, "count above 10, the highest of the PK-only profile";
 }
 
 impl Refusal {
@@ -69,7 +73,7 @@ impl Refusal {
 
     /// The index of the statement that is refused, where the place is one.
     pub fn statement(&self) -> Option<usize> {
-        (matches!(self.number(), 13..=17 | 20)).then_some(self.place)
+        (matches!(self.number(), 13..=17 | 20 | 22..=24)).then_some(self.place)
     }
 
     /// The line and the column of the place in its text, both from 1, a column a byte. Only where the place is an offset.

@@ -26,6 +26,7 @@ static void print(void) { mfl_print(text, length, out, room, MFL_CEILING); }
 static void statement(void) { mfl_statement(text, length, index_asked, numbers, MFL_STATEMENT_ROOM, MFL_CEILING); }
 
 static void statements(void) { mfl_statements(text, length, numbers, room, MFL_CEILING); }
+static void profile(void) { mfl_profile(text, length, MFL_CEILING); }
 
 /* Resolve in a context that has the names of the texts: parameters CL, V, KA, MAT, B-1, 1.5; IIV CL, V; template cl=CL, ka=KA; covariates WT, AGE
  * continuous, SEX, B categorical; columns WT. */
@@ -65,7 +66,7 @@ static size_t deep(void (*call)(void)) {
     return depth;
 }
 
-static size_t most[6];
+static size_t most[7];
 
 static void more(size_t call, void (*made)(void)) {
     size_t found = deep(made);
@@ -84,6 +85,7 @@ static void all(void) {
     room = MFL_STATEMENTS_ROOM(MFL_TEXT_LIMIT);
     more(4, statements);
     more(5, resolve);
+    more(6, profile);
 }
 
 static void of(const char *words) {
@@ -141,7 +143,7 @@ int main(void) {
     of("COVARIATE(@PD,WT,lin);IIV(@ABSORPTION,*);COVARIATE?([CL,V],[WT,AGE],*,+)");
     filled("COVARIATE?(@PK,@CONTINUOUS,*);", 80 * 30);
 
-    const char *names[] = {"mfl_scan", "mfl_count", "mfl_print", "mfl_statement", "mfl_statements", "mfl_resolve"};
-    for (int call = 0; call < 6; call++) printf("| `%s` | %zu |\n", names[call], most[call]);
+    const char *names[] = {"mfl_scan", "mfl_count", "mfl_print", "mfl_statement", "mfl_statements", "mfl_resolve", "mfl_profile"};
+    for (int call = 0; call < 7; call++) printf("| `%s` | %zu |\n", names[call], most[call]);
     return 0;
 }

@@ -54,6 +54,9 @@ static void states_all(const char *text, size_t room, uint64_t answer, const uin
     check(text, memcmp(out, held, sizeof out) != 0, 0);
 }
 
+/* Profile, under the ceiling at hand. It writes nothing. */
+static void profiles(const char *text, uint64_t wanted) { check(text, mfl_profile(bytes(text), strlen(text), ceiling), wanted); }
+
 /* Document 01's K: parameters CL, V, KA; IIV CL, V; template cl=CL, v=V, ka=KA; WT continuous, SEX categorical. */
 static const char block[] = "CLVKACLVclCLvVkaKAWTSEXWTSEX";
 static const uint32_t lists[] = {3,  2, 3,  2, 2, 1, 1, 0, 2, 2, 1,  3, 2,  5, 2,  7, 1,  8, 2, 10,
@@ -147,10 +150,103 @@ static void ceilings(const uint8_t *blanks) {
     ceiling = MFL_CEILING;
 }
 
+/* A form's text with a count in place of its `_`. */
+static const char *with_count(const char *form, unsigned count) {
+    static char text[64];
+    const char *mark = strchr(form, '_');
+    snprintf(text, sizeof text, "%.*s%u%s", (int)(mark - form), form, count, mark + 1);
+    return text;
+}
+
+/* The profile: what it has, each of its faults at its statement's index, and what comes before them. */
+static void profile(const uint8_t *blanks) {
+    profiles("", 0);
+    profiles(";;# nothing", 0);
+    profiles("ABSORPTION(*);ELIMINATION([FO,MM]);PERIPHERALS(0..10,DRUG);TRANSITS([1,3,10],*);LAGTIME(ON)", 0);
+    profiles("IIV(CL,EXP);IIV(CL,EXP);IOV(*,EXP);IOV(*,EXP);COVARIANCE(IIV,*);COVARIANCE(IIV,*);ALLOMETRY(WT,70);ALLOMETRY(WT,70)", 0);
+    profiles("COVARIATE?(CL,WT,lin);COVARIATE?(CL,WT,lin);LET(A,11);LET(A,[12,B]);IIV([11,CL],EXP)", 0);
+    profiles("LET(TRANSITS,LAGTIME);LAGTIME(ON)", 0);
+
+    /* each of the four that are outside, alone and behind LETs and others, which count */
+    const char *outside[] = {"DIRECTEFFECT(EMAX)", "EFFECTCOMP(*)", "INDIRECTEFFECT(*,PRODUCTION)", "METABOLITE(PSC)"};
+    for (size_t i = 0; i < sizeof outside / sizeof *outside; i++) {
+        char text[128];
+        profiles(outside[i], refusal(22, 0));
+        snprintf(text, sizeof text, "LET(A,CL);LAGTIME(ON)\nLET(B,V);;%s;LAGTIME(ON)", outside[i]);
+        profiles(text, refusal(22, 3));
+    }
+
+    /* each of the five twice, next to each other and apart, LETs counted; a third comes later */
+    const char *five[] = {"ABSORPTION(FO)", "ELIMINATION(MM)", "PERIPHERALS(1)", "TRANSITS(N)", "LAGTIME(ON)"};
+    for (size_t i = 0; i < sizeof five / sizeof *five; i++) {
+        char text[128];
+        snprintf(text, sizeof text, "%s;%s", five[i], five[i]);
+        profiles(text, refusal(23, 1));
+        snprintf(text, sizeof text, "LET(A,CL);%s;LET(B,V);%s;IIV(CL,EXP);%s;%s", five[i], five[(i + 1) % 5], five[i], five[i]);
+        profiles(text, refusal(23, 5));
+    }
+    profiles("TRANSITS(N);TRANSITS(3,DEPOT)", refusal(23, 1));
+
+    /* counts of 10 and 11 in each form */
+    const char *forms[] = {
+        "PERIPHERALS(_)", "PERIPHERALS(00_,MET)", "PERIPHERALS(0.._)", "PERIPHERALS([_])",       "PERIPHERALS([1,_,0])",
+        "TRANSITS(_)",    "TRANSITS(_,DEPOT)",    "TRANSITS(10.._)", "TRANSITS([0,0,_],NODEPOT)", "TRANSITS([_,0])",
+    };
+    for (size_t i = 0; i < sizeof forms / sizeof *forms; i++) {
+        char text[128];
+        profiles(with_count(forms[i], 10), 0);
+        profiles(with_count(forms[i], 11), refusal(24, 0));
+        snprintf(text, sizeof text, "LET(A,CL);IIV(CL,EXP);%s;LAGTIME(ON)", with_count(forms[i], 11));
+        profiles(text, refusal(24, 2));
+    }
+    profiles("PERIPHERALS(11..12)", refusal(24, 0));
+    profiles("TRANSITS(n)", 0);
+
+    /* the first statement first, and within one 23 before 24 */
+    profiles("TRANSITS(11);METABOLITE(PSC)", refusal(24, 0));
+    profiles("METABOLITE(PSC);TRANSITS(11)", refusal(22, 0));
+    profiles("LAGTIME(ON);LAGTIME(ON);METABOLITE(PSC);TRANSITS(11)", refusal(23, 1));
+    profiles("TRANSITS(1);TRANSITS(11)", refusal(23, 1));
+    profiles("METABOLITE(PSC);METABOLITE(PSC)", refusal(22, 0));
+
+    /* what reading refuses, though an earlier statement is against the profile */
+    profiles("METABOLITE(PSC);TRANSITS(65)", refusal(4, 25));
+    profiles("METABOLITE(PSC);FOO(1)", refusal(6, 16));
+    profiles("LAGTIME(ON);LAGTIME(ON);$", refusal(2, 24));
+    profiles("METABOLITE?(PSC)", refusal(7, 0));
+    check("16,384 blanks", mfl_profile(blanks, MFL_TEXT_LIMIT, ceiling), 0);
+    check("16,385 blanks", mfl_profile(blanks, MFL_TEXT_LIMIT + 1, ceiling), refusal(1, 0));
+
+    /* Under a ceiling below 10 a count above it is 4, and the profile has no count to refuse; from 11 on it has. */
+    const uint32_t held[] = {3, 10, 11, MFL_CEILING, MFL_CEILING_LIMIT};
+    for (size_t i = 0; i < sizeof held / sizeof *held; i++) {
+        ceiling = held[i];
+        uint32_t fits = ceiling < MFL_PROFILE_COUNT ? ceiling : MFL_PROFILE_COUNT;
+        profiles(with_count("PERIPHERALS(_)", fits), 0);
+        profiles(with_count("TRANSITS([0,_])", fits), 0);
+        profiles(with_count("PERIPHERALS(_)", fits + 1), ceiling > MFL_PROFILE_COUNT ? refusal(24, 0) : refusal(4, 12));
+        profiles(with_count("TRANSITS(0.._)", ceiling), ceiling > MFL_PROFILE_COUNT ? refusal(24, 0) : 0);
+        profiles(with_count("PERIPHERALS(_)", ceiling + 1), refusal(4, 12));
+        profiles(with_count("LAGTIME(ON);LAGTIME(ON);TRANSITS(_)", ceiling + 1), refusal(4, 33));
+        profiles("LAGTIME(ON);LAGTIME(ON)", refusal(23, 1));
+        profiles("EFFECTCOMP(*)", refusal(22, 0));
+    }
+    const uint32_t above[] = {MFL_CEILING_LIMIT + 1, 65536 + MFL_CEILING, UINT32_MAX};
+    for (size_t i = 0; i < sizeof above / sizeof *above; i++) {
+        ceiling = above[i];
+        profiles("", refusal(21, 0));
+        profiles("EFFECTCOMP(*)", refusal(21, 0));
+        profiles("$", refusal(21, 0));
+        check("16,385 blanks", mfl_profile(blanks, MFL_TEXT_LIMIT + 1, ceiling), refusal(21, 0));
+    }
+    ceiling = MFL_CEILING;
+}
+
 int main(void) {
     static uint8_t blanks[MFL_TEXT_LIMIT + 1];
     memset(blanks, ' ', sizeof blanks);
     ceilings(blanks);
+    profile(blanks);
 
     check("scan", mfl_scan(bytes("IIV($"), 5), 4);
     check("scan", mfl_scan(bytes("IIV("), 4), 4);

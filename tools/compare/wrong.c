@@ -1,5 +1,5 @@
 /* The library with one answer in WRONG made wrong, for tools/compare/wrong: the real calls have become real_.. Those whose names begin with
- * `ceiling` are wrong under other ceilings than 64 alone. */
+ * `ceiling` are wrong under other ceilings than 64 alone, and those with `profile` are answers of Profile. */
 #include <string.h>
 
 #include "dumachik.h"
@@ -8,6 +8,7 @@ size_t real_scan(const uint8_t *text, size_t length);
 uint64_t real_count(const uint8_t *text, size_t length, uint32_t ceiling);
 uint64_t real_print(const uint8_t *text, size_t length, uint8_t *out, size_t room, uint32_t ceiling);
 uint64_t real_statement(const uint8_t *text, size_t length, uint32_t index, uint32_t *out, size_t room, uint32_t ceiling);
+uint64_t real_profile(const uint8_t *text, size_t length, uint32_t ceiling);
 
 enum {
     none,
@@ -28,6 +29,11 @@ enum {
     ceiling_one_more_for_statement,
     ceiling_257_like_256,
     ceiling_too_high_behind_1,
+    profile_second_at_the_first,
+    profile_transits_passed_over,
+    profile_range_by_its_left_end,
+    profile_lets_not_counted,
+    profile_24_before_23,
 };
 
 static uint64_t refusal(uint64_t number, uint64_t place) { return number << 32 | place; }
@@ -79,5 +85,35 @@ uint64_t mfl_statement(const uint8_t *text, size_t length, uint32_t index, uint3
         out[6] = out[4];
     if (WRONG == last_number_of_a_let_called_a_word && out[0] == 14 && out[6] > 1) out[answer - 3] = 0;
     if (WRONG == late_statement_optional && index > 200) out[1] ^= 1;
+    return answer;
+}
+
+/* The statement at an index as its numbers: the keyword, the mark of a `?`, and for counts their kind (2 one, 3 a range, 4 a list). */
+static const uint32_t *numbers_at(const uint8_t *text, size_t length, uint32_t index, uint32_t ceiling) {
+    static uint32_t out[MFL_STATEMENT_ROOM];
+    real_statement(text, length, index, out, MFL_STATEMENT_ROOM, ceiling);
+    return out;
+}
+
+/* How many statements before an index have a keyword, and the first of them. */
+static uint32_t before(const uint8_t *text, size_t length, uint32_t index, uint32_t keyword, uint32_t ceiling, uint32_t *first) {
+    uint32_t many = 0;
+    for (uint32_t at = index; at-- > 0;)
+        if (numbers_at(text, length, at, ceiling)[0] == keyword) many++, *first = at;
+    return many;
+}
+
+uint64_t mfl_profile(const uint8_t *text, size_t length, uint32_t ceiling) {
+    uint64_t answer = real_profile(text, length, ceiling);
+    uint32_t number = MFL_REFUSAL(answer), place = MFL_PLACE(answer), first = 0;
+    if (number < 22) return answer;
+    const uint32_t *numbers = numbers_at(text, length, place, ceiling);
+    uint32_t keyword = numbers[0], kind = numbers[2], value = numbers[3];
+    int counts = keyword == 2 || keyword == 3;
+    if (WRONG == profile_second_at_the_first && number == 23 && before(text, length, place, keyword, ceiling, &first)) return refusal(23, first);
+    if (WRONG == profile_transits_passed_over && number == 24 && keyword == 3) return 0;
+    if (WRONG == profile_range_by_its_left_end && number == 24 && kind == 3 && value <= MFL_PROFILE_COUNT) return 0;
+    if (WRONG == profile_lets_not_counted) return refusal(number, place - before(text, length, place, 14, ceiling, &first));
+    if (WRONG == profile_24_before_23 && number == 23 && counts && kind == 2 && value > MFL_PROFILE_COUNT) return refusal(24, place);
     return answer;
 }

@@ -5,7 +5,7 @@
 //! the source with a character for each byte: to it all characters past 127 are one.
 
 use dumachik::{count_under, print_into_under, scan, statement_into_under, statement_under, statements_into_under};
-use dumachik::{Item, ModelContext, Refusal, Statement, MAX_ENTRIES, MAX_STATEMENTS, MAX_TEXT, STATEMENT_ROOM};
+use dumachik::{CovariateKind, Item, ModelContext, PkTemplate, Refusal, Statement, MAX_ENTRIES, MAX_STATEMENTS, MAX_TEXT, STATEMENT_ROOM};
 
 /// What stands in outputs before a call.
 pub const BYTE: u8 = 0xa5;
@@ -70,6 +70,23 @@ macro_rules! source {
             },
         }
     };
+}
+
+/// Document 01's K; the same without a template; and with columns for declared covariates.
+pub fn models() -> [ModelContext; 3] {
+    let names = |words: &str| words.split(' ').map(str::to_string).collect::<Vec<_>>();
+    let k = ModelContext {
+        parameters: names("CL V KA"),
+        iiv: names("CL V"),
+        template: Some(PkTemplate {
+            keyword: "pk".into(),
+            name: "one_cpt_oral".into(),
+            bindings: ["CL", "V", "KA"].map(|name| (name.to_lowercase(), name.to_string())).to_vec(),
+        }),
+        covariates: Some(vec![("WT".into(), CovariateKind::Continuous), ("SEX".into(), CovariateKind::Categorical)]),
+        data_covariates: names("WT SEX"),
+    };
+    [k.clone(), ModelContext { template: None, ..k.clone() }, ModelContext { covariates: None, ..k }]
 }
 
 /// What became of a text on which all agree.

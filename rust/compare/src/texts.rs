@@ -65,6 +65,13 @@ const IN_MODEL: &[&str] = &[
     "COVARIATE(CL,SEX,lin)",
     "IIV(256,EXP)",
 ];
+/// The features that a text of the PK-only profile has once at most, and those that it has not.
+const FIVE: &[&str] = &["ABSORPTION", "ELIMINATION", "PERIPHERALS", "TRANSITS", "LAGTIME"];
+const OUTSIDE: &[&str] = &["DIRECTEFFECT", "EFFECTCOMP", "INDIRECTEFFECT", "METABOLITE"];
+/// Counts that a text for the profile has are near one of these.
+const NEAR_TEN: &[usize] = &[2, 3, 4, 8, 9, 9, 10, 10, 10, 10, 10, 10, 11, 11, 12, 64, 66, 256];
+/// LETs that stand in front of others: numbers above 10 and the words of features are names there.
+const LETS: &[&str] = &["LET(S,[CL,V])", "LET(D,WT)", "LET(METABOLITE,[11,CL])", "LET(Transits,12)", "LET(n,KA)"];
 /// Every byte that means something, and some that do not.
 const MARKS: &[u8] = b"()[],.*+?@;#\n\r\t $%-_aZnN09";
 
@@ -157,6 +164,58 @@ impl Texts {
         };
         let n = self.r.between(1, 6);
         (0..n).map(|_| statement(self) + self.separator()).collect::<String>().into_bytes()
+    }
+
+    /// A text near the edges of the PK-only profile: LETs in front, then some of the five features, and others in between that resolve in the
+    /// model of `IN_MODEL`; of the five one may stand again, a feature may be outside, and counts are near 10. One in twelve is any text, and
+    /// one in a hundred has so many statements that the index of one may be the last that there is.
+    pub fn profiled(&mut self) -> Vec<u8> {
+        if self.r.permille(80) {
+            return self.text().1;
+        }
+        self.near = self.r.pick(NEAR_TEN);
+        self.faulty = self.r.permille(50);
+        let mut statements: Vec<String> = Vec::new();
+        for keyword in FIVE {
+            if self.r.permille(450) {
+                self.put_anywhere(&mut statements, keyword);
+            }
+        }
+        if self.r.permille(250) {
+            let keyword = self.r.pick(FIVE);
+            for _ in 0..self.r.pick(&[1, 2, 2, 3]) {
+                self.put_anywhere(&mut statements, keyword);
+            }
+        }
+        if self.r.permille(120) {
+            let keyword = self.r.pick(OUTSIDE);
+            self.put_anywhere(&mut statements, keyword);
+        }
+        let others = if self.r.permille(10) { self.r.between(240, 255) } else { self.r.below(4) };
+        for _ in 0..others {
+            let at = self.r.below(statements.len() + 1);
+            let other =
+                self.r.pick(&["IIV(CL,EXP)", "IIV(@PK,[EXP,ADD])", "IOV?(@IIV,EXP)", "COVARIATE?(V,WT,[lin,pow])", "ALLOMETRY(WT,70)", ""]);
+            statements.insert(at, if other.is_empty() { self.r.pick(IN_MODEL) } else { other }.to_string());
+        }
+        if self.r.permille(400) {
+            let first = self.r.below(LETS.len());
+            let lets = (0..self.r.between(1, 3)).map(|n| LETS[(first + n) % LETS.len()].to_string());
+            statements.splice(0..0, lets);
+        }
+        let text: String = statements.into_iter().map(|statement| statement + self.separator()).collect();
+        if self.r.permille(20) {
+            self.damaged(text.into_bytes())
+        } else {
+            text.into_bytes()
+        }
+    }
+
+    fn put_anywhere(&mut self, statements: &mut Vec<String>, keyword: &str) {
+        let arguments = self.arguments(keyword, false);
+        let word = self.case(keyword);
+        let at = self.r.below(statements.len() + 1);
+        statements.insert(at, self.written(&word, false, arguments));
     }
 
     fn of(&mut self, kind: Kind) -> Vec<u8> {

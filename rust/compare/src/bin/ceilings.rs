@@ -22,10 +22,12 @@ mod comparison {
     use std::collections::BTreeMap;
     use std::time::Instant;
 
-    use compare::held::{characters, ensure, held, number_of, refused_by_all, smallest, Ground, Outcome, Source, BYTE, NUMBER};
+    use compare::held::{characters, ensure, held, models, number_of, refused_by_all, smallest, Ground, Outcome, Source, BYTE, NUMBER};
     use compare::texts::Texts;
-    use dumachik::{resolve, resolve_into_under, Buffers, CovariateKind, Effect, Fault, Handed, Mfl, ModelContext};
-    use dumachik::{NoteNumbers, PkTemplate, Refusal, WORKING};
+    use dumachik::{resolve, resolve_into_under, Buffers, Effect, Fault, Handed, Mfl, ModelContext, NoteNumbers, Refusal, WORKING};
+
+    use compare::source as each_source;
+    use Source as EachSource;
 
     include!(concat!(env!("OUT_DIR"), "/ceilings.rs"));
 
@@ -117,7 +119,7 @@ mod comparison {
             std::process::exit(2);
         };
         let start = Instant::now();
-        let (sources, models) = (sources(), models());
+        let (sources, models) = (sources(), models().map(|context| Model { handed: context.handed(), context }));
         let mut texts = Texts::near_ceilings(seed as u64);
         let (mut found, mut done, mut by_ceiling) = (Found::default(), 0, 0);
         let mut differing: Vec<(Vec<u8>, Check)> = Vec::new();
@@ -160,24 +162,6 @@ mod comparison {
             differing.len()
         );
         std::process::exit(i32::from(!differing.is_empty()));
-    }
-
-    /// Document 01's K; the same without a template; and with columns for declared covariates.
-    fn models() -> [Model; 3] {
-        let names = |words: &str| words.split(' ').map(str::to_string).collect::<Vec<_>>();
-        let k = ModelContext {
-            parameters: names("CL V KA"),
-            iiv: names("CL V"),
-            template: Some(PkTemplate {
-                keyword: "pk".into(),
-                name: "one_cpt_oral".into(),
-                bindings: ["CL", "V", "KA"].map(|name| (name.to_lowercase(), name.to_string())).to_vec(),
-            }),
-            covariates: Some(vec![("WT".into(), CovariateKind::Continuous), ("SEX".into(), CovariateKind::Categorical)]),
-            data_covariates: names("WT SEX"),
-        };
-        let contexts = [k.clone(), ModelContext { template: None, ..k.clone() }, ModelContext { covariates: None, ..k }];
-        contexts.map(|context| Model { handed: context.handed(), context })
     }
 
     /// Every call refuses by 21 under ceilings above 256, whatever the text.
