@@ -43,12 +43,11 @@ fn first_of(text: &[u8], keyword: usize) -> usize {
 fn put_second(page: &mut [u8], len: usize, text: &[u8], start: usize) -> usize {
     let keyword = keyword_at(text, start);
     let a = places::put_place(page, len, text, start);
-    let b = pages::put_all(page, a, b"a second ");
-    let c = accepted::put_keyword(page, b, keyword);
-    let d = pages::put_all(page, c, b"; the first is on line ");
-    let e = pages::put_number(page, d, places::line_of(text, first_of(text, keyword)));
-    let f = pages::put_all(page, e, b", and the PK-only profile has at most one\n");
-    places::put_marked(page, f, text, start)
+    let b = accepted::put_keyword(page, a, keyword);
+    let c = pages::put_all(page, b, b" stands already, on line ");
+    let d = pages::put_number(page, c, places::line_of(text, first_of(text, keyword)));
+    let e = pages::put_all(page, d, b"; the PK-only profile has at most one\n");
+    places::put_marked(page, e, text, start)
 }
 
 // Whether a token is a number above 10.
