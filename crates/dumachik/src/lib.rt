@@ -11,7 +11,7 @@ ghost use Rattle.statements.specs.Answers.{counting};
 ghost use Rattle.statement_numbers.specs.Answers.{numbering};
 ghost use Rattle.resolving.specs.Resolve.{groundText};
 ghost use Rattle.resolving.specs.Call.{resolveCall, lengthsOf, outputOf, workAfter, noteNumbers};
-ghost use Rattle.resolve.specs.Answers.{lent};
+ghost use Rattle.settling.specs.Answers.{lent};
 ghost use Rattle.records.specs.Records.{recordOf};
 ghost use Rattle.records.specs.Words.{resolvedWord};
 ghost use Rattle.profiling.specs.Profile.{profileText};

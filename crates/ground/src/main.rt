@@ -6,7 +6,7 @@ use ground_files::Sizes;
 use ground_files::asked;
 use ground_files::asked::Asked;
 use input::Got;
-use resolve::Resolved;
+use settling::Resolved;
 
 // The message for a person: what is wrong with the context has its file's name before it.
 fn explain(

@@ -3,7 +3,7 @@
 mod lets;
 
 pub use lets::put_lets;
-use resolve::Resolved;
+use settling::Resolved;
 
 // Why an operand is refused, 0 where it is not, and how many entries it stands for.
 pub struct Probed {

@@ -11,7 +11,7 @@ use Rattle.reading.specs.Answer.{Answer}
 use Rattle.resolving.specs.Resolve.{Resolved, groundText}
 use Rattle.resolving.specs.Call.{resolveCall, lengthsOf, outputOf, workAfter, noteNumbers}
 use Rattle.merging.specs.Packing.{effectOf}
-use Rattle.resolve.specs.Answers.{Packed, effectsIn, rooms}
+use Rattle.settling.specs.Answers.{Packed, effectsIn, rooms}
 use Rattle.resolve.proofs.Packed.{effects-fit, effects-stand, effects-put}
 use Rattle.records.specs.declared.Effect.{Effect}
 use Rattle.records.specs.Records.{recordOf, unpacked}

@@ -4,7 +4,7 @@ use native.Mathlib.Omega.{arith}
 use mathlib.Core.Path.{_≡_}
 use Rattle.reading.specs.Answer.{Answer, accepted, refused}
 use Rattle.resolving.specs.Call.{Lengths}
-use Rattle.resolve.specs.Answers.{effectsIn}
+use Rattle.settling.specs.Answers.{effectsIn}
 use Rattle.records.specs.Words.{resolvedWord, effectsTold, Small}
 
 pub told-effects : (a : Answer Lengths) → Small a → effectsTold (resolvedWord a) ≡ effectsIn a

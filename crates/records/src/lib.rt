@@ -7,12 +7,12 @@ ghost use lib.ListN.{length, getD, take, drop};
 ghost use Rattle.record_laws.specs.First.{firstIndex};
 ghost use Rattle.resolving.specs.Resolve.{groundText};
 ghost use Rattle.resolving.specs.Call.{resolveCall, lengthsOf, outputOf, workAfter, noteNumbers};
-ghost use Rattle.resolve.specs.Answers.{Packed, resolvedAs, lengthsAs, rooms, lent};
+ghost use Rattle.settling.specs.Answers.{Packed, resolvedAs, lengthsAs, rooms, lent};
 ghost use Rattle.records.specs.Records.{recordOf, unpacked, noEffect, isOf};
 ghost use Rattle.records.specs.Words.{lengthsWord, resolvedWord, effectsTold, Small};
 use forms::Refusal;
-use resolve::Lengths;
-use resolve::Resolved;
+use settling::Lengths;
+use settling::Resolved;
 
 // An effect: its parameter and its covariate, each the index of its name's first entry in its list, its form by its place in the family, its
 // operator (0 `*`, 1 `+`), and whether it is optional (0 or 1).

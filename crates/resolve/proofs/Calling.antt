@@ -22,7 +22,7 @@ use Rattle.resolving.specs.Call.{Lengths, roomFor, resolveCall, workAfter}
 use Rattle.operands.specs.Entries.{meaningIn}
 use Rattle.collecting.specs.Collected.{CollectedAll}
 use Rattle.collecting.proofs.Meaning.{collected-meaning}
-use Rattle.resolve.specs.Stages.{settled}
+use Rattle.settling.specs.Stages.{settled}
 
 -- The LETs.
 

@@ -16,8 +16,8 @@ use Rattle.resolving.specs.Resolve.{groundText}
 use Rattle.resolving.specs.Handed.{resolveHanded}
 use Rattle.resolving.specs.Call.{Lengths, exceeds, lengthsIn, roomFor, resolveCall, lengthsOf, outputOf, workAfter, workingLength}
 use Rattle.merging.specs.Packing.{effectOf}
-use Rattle.resolve.specs.declared.Resolved.{Resolved}
-use Rattle.resolve.specs.Answers.{resolvedAs, rooms, effectsIn, PackedIn, Answers, Packed}
+use Rattle.settling.specs.declared.Resolved.{Resolved}
+use Rattle.settling.specs.Answers.{resolvedAs, rooms, effectsIn, PackedIn, Answers, Packed}
 
 -- a refusal leaves all as it was
 pub refused-packed : {a : Answer definition.Resolved} {g : List ℕ} {n : List (List ℕ)} {w : List ℕ} (k p : ℕ) → a ≡ refused k p → Packed a g n w g n w

@@ -1,4 +1,4 @@
--- A short text: what was brought is what is resolved, and its ground statements stand where the groups' are put behind them.
+-- A short text: what was brought is what is resolved.
 -- Assumes nothing.
 use Prim.Native.Nat.{ℕ, _≤_}
 use native.Mathlib.Omega.{arith}
@@ -6,7 +6,7 @@ use mathlib.Core.Path.{_≡_, _∙_, sym, subst}
 use mathlib.Core.Bool.{true}
 use mathlib.Core.List.{List}
 use lib.ListN.{length}
-use Rattle.reading.specs.Answer.{Answer, accepted}
+use Rattle.reading.specs.Answer.{accepted}
 use Rattle.writing.specs.Written.{Written}
 use Rattle.writing.proofs.Writing.{same-room}
 use Rattle.render.proofs.Pieces.{restOf}
@@ -14,17 +14,14 @@ use Rattle.resolving.specs.Lists.{gather}
 use Rattle.resolving.specs.Context.{Context}
 use Rattle.resolving.specs.Brought.{Brought, bring, eachFrom}
 use Rattle.resolving.specs.Ground.{staying}
-use Rattle.resolving.specs.Resolve.{Resolved, mergeAndGround}
+use Rattle.resolving.specs.Resolve.{mergeAndGround}
 use Rattle.resolving.specs.Handed.{isHanded, handedContext, resolveHanded}
 use Rattle.operands.specs.Entries.{meaningIn}
 use Rattle.brought.specs.declared.Tally.{Tally}
 use Rattle.few.specs.Few.{FewBrings}
-use Rattle.resolve.specs.Stages.{Grounding}
-use Rattle.resolve.specs.declared.Few.{Few}
-use Rattle.resolve.specs.Short.{FewThere, FewGrounding, FewAnswers}
+use Rattle.settling.specs.Short.{FewThere}
+use Rattle.settling.proofs.Settling.{accepted-same, all-there, settled-on}
 use Rattle.resolve.proofs.Calling.{accepted-handed, checked-handed, collected-resolve}
-use Rattle.resolve.proofs.Settling.{accepted-same, all-there, settled-on}
-use Rattle.resolve.proofs.Measured.{what-is}
 
 -- what few statements bring, where all was made in buffers of these lengths
 unfoldable pub few-there : {limit : ℕ} {s : List ℕ} {c : Context} {ts ds out ts' ds' out' : List ℕ} {u : Tally}
@@ -59,26 +56,3 @@ few-resolved {limit} b l {s} i h e =
     ∙ checked-handed b l (h .statements) i
     ∙ collected-resolve (handedContext b l) (h .statements) (h .collected)
     ∙ settled-on (handedContext b l) e
-
--- the same text where the effects are grouped
-unfoldable pub few-grounding : {c : Context} {t : Tally} {ds work work' made : List ℕ} {count groups : ℕ} (x : FewThere c t ds work made)
-    → Grounding (eachFrom (bring c (x .look)) 0 (x .statements)) c t ds work' count groups
-    → FewGrounding c t ds work' count groups made
-few-grounding {c} {t} {ds} {work} {work'} {made} x g =
-    record {
-      all = eachFrom (bring c (x .look)) 0 (x .statements);
-      known = g;
-      before = x .before;
-      text =
-          subst (λ (bs : List Brought). Written (x .before) 0 (restOf 0 (gather staying bs)) made (t .ground))
-          (sym (what-is g (x .there .what) (x .there .brought))) (x .text);
-      small = x .small;
-    }
-
--- an answer for another that is equal
-pub same-few :
-    (a b : Answer Resolved) (g : List ℕ) (e : ℕ) (n : List (List ℕ)) (g' : List ℕ) (n' : List (List ℕ)) (w' : List ℕ) (r : Few)
-    → b ≡ a
-    → FewAnswers a g e n g' n' w' r
-    → FewAnswers b g e n g' n' w' r
-same-few a b g e n g' n' w' r h x = subst (λ (y : Answer Resolved). FewAnswers y g e n g' n' w' r) (sym h) x

@@ -5,7 +5,7 @@ use effect_lines::within;
 use lines::output;
 use lines::words;
 use lines::words::Decoded;
-use resolve::Resolved;
+use settling::Resolved;
 
 // How many bytes of ground text, effects, notes and numbers to work with are lent.
 struct Lent {

@@ -3,7 +3,7 @@ use mathlib.Core.Path.{_∙_, ap, sym, subst}
 use lib.ListN.{length}
 use denote.Ref.{now}
 use borrow.Author.Needs.{needs}
-use Rattle.resolve.specs.Answers.{rooms}
+use Rattle.settling.specs.Answers.{rooms}
 use Rattle.records.specs.Words.{resolvedWord, Small}
 use Rattle.records.proofs.Below.{resolved-small}
 use Rattle.records.proofs.resolve_word.Statement.{statement}

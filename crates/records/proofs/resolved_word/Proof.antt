@@ -1,7 +1,7 @@
 -- `records::resolved_word` meets its contract. Assumes nothing.
 use mathlib.Core.Path.{_∙_, ap, sym, subst}
 use borrow.Author.Needs.{needs}
-use Rattle.resolve.specs.Answers.{resolvedAs}
+use Rattle.settling.specs.Answers.{resolvedAs}
 use Rattle.records.specs.Words.{resolvedWord, Small}
 use Rattle.records.proofs.resolved_word.Statement.{statement}
 use Rattle.records.proofs.resolved_word.Tie as tie

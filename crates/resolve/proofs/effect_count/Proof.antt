@@ -1,6 +1,6 @@
 -- `resolve::effect_count` meets its contract. Assumes nothing.
 use borrow.Author.Needs.{needs}
-use Rattle.resolve.specs.Answers.{resolvedAs}
+use Rattle.settling.specs.Answers.{resolvedAs}
 use Rattle.resolve.proofs.effect_count.Statement.{statement}
 use Rattle.resolve.proofs.effect_count.Tie as tie
 

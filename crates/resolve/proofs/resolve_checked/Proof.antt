@@ -3,7 +3,7 @@
 use mathlib.Core.Path.{subst}
 use borrow.Author.Needs.{needs}
 use Rattle.collecting.specs.Collected.{CollectedAs}
-use Rattle.resolve.proofs.Answering.{refused-answers, same-answers}
+use Rattle.settling.proofs.Answering.{refused-answers, same-answers}
 use Rattle.resolve.proofs.Calling.{second-resolve, collected-resolve}
 use Rattle.resolve.proofs.resolve_checked.Statement.{statement}
 use Rattle.resolve.proofs.resolve_checked.Tie as tie

@@ -9,8 +9,8 @@ use Rattle.resolving.specs.Handed.{handedContext}
 use Rattle.operands.specs.Entries.{meaningIn}
 use Rattle.space.specs.Space.{statementsIn}
 use Rattle.brought.specs.Tallies.{AllAs}
-use Rattle.resolve.specs.Answers.{resolvedAs}
-use Rattle.resolve.proofs.Settling.{all-there, settled-on, settled-refused, statements-few, none-before, refused-behind, answers-behind}
+use Rattle.settling.specs.Answers.{resolvedAs}
+use Rattle.settling.proofs.Settling.{all-there, settled-on, settled-refused, statements-few, none-before, refused-behind, answers-behind}
 use Rattle.resolve.proofs.resolve_collected.Statement.{statement}
 use Rattle.resolve.proofs.resolve_collected.Tie as tie
 

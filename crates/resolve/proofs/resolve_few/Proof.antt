@@ -3,8 +3,9 @@ use mathlib.Core.Path.{refl, subst}
 use denote.Ref.{now}
 use borrow.Author.Needs.{needs}
 use Rattle.few.specs.Few.{FewAs}
-use Rattle.resolve.specs.Short.{FewAnswers}
-use Rattle.resolve.proofs.Short.{few-there, few-resolved, same-few}
+use Rattle.settling.specs.Short.{FewAnswers}
+use Rattle.settling.proofs.Short.{same-few}
+use Rattle.resolve.proofs.Short.{few-there, few-resolved}
 use Rattle.resolve.proofs.resolve_few.Statement.{statement}
 use Rattle.resolve.proofs.resolve_few.Tie as tie
 

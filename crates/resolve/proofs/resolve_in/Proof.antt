@@ -12,9 +12,9 @@ use Rattle.reading_laws.specs.Admitted.{Admitted}
 use Rattle.statements.specs.Answers.{AdmissionAs}
 use Rattle.space.proofs.Endings.{read-accepted, read-refused}
 use Rattle.space.proofs.Fitting.{space-fits}
-use Rattle.resolve.specs.Answers.{resolvedAs}
-use Rattle.resolve.specs.Short.{FewAnswers}
-use Rattle.resolve.proofs.Answering.{refused-answers, same-answers, answers-back}
+use Rattle.settling.specs.Answers.{resolvedAs}
+use Rattle.settling.specs.Short.{FewAnswers}
+use Rattle.settling.proofs.Answering.{refused-answers, same-answers, answers-back}
 use Rattle.resolve.proofs.Calling.{accepted-handed, refused-handed}
 use Rattle.resolve.proofs.resolve_in.Statement.{statement}
 use Rattle.resolve.proofs.resolve_in.Tie as tie

@@ -4,7 +4,7 @@ use mathlib.Core.Path.{_∙_, ap, sym}
 use denote.Ref.{now}
 use borrow.Author.Needs.{needs}
 use Rattle.resolving.specs.Call.{lengthsOf}
-use Rattle.resolve.specs.Answers.{rooms}
+use Rattle.settling.specs.Answers.{rooms}
 use Rattle.resolve.proofs.Calling.{short-call, long-call}
 use Rattle.resolve.proofs.Packed.{refused-packed, answers-told, answers-packed}
 use Rattle.resolve.proofs.resolve_packed.Statement.{statement}

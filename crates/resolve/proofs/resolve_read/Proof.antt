@@ -2,7 +2,7 @@
 use mathlib.Core.Path.{_∙_, sym}
 use borrow.Author.Needs.{needs}
 use Rattle.context.proofs.Meaning.{checked-stands, checked-wrong}
-use Rattle.resolve.proofs.Answering.{refused-answers, same-answers}
+use Rattle.settling.proofs.Answering.{refused-answers, same-answers}
 use Rattle.resolve.proofs.Calling.{wrong-handed, checked-handed}
 use Rattle.resolve.proofs.resolve_read.Statement.{statement}
 use Rattle.resolve.proofs.resolve_read.Tie as tie

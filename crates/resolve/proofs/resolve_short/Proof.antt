@@ -2,7 +2,7 @@
 use mathlib.Core.Path.{refl, _∙_, sym}
 use borrow.Author.Needs.{needs}
 use Rattle.context.proofs.Meaning.{checked-stands}
-use Rattle.resolve.specs.Short.{FewAnswers}
+use Rattle.settling.specs.Short.{FewAnswers}
 use Rattle.resolve.proofs.resolve_short.Statement.{statement}
 use Rattle.resolve.proofs.resolve_short.Tie as tie
 

@@ -10,7 +10,7 @@ use Rattle.reading.specs.Answer.{Answer}
 use Rattle.resolving.specs.Resolve as definition
 use Rattle.resolving.specs.Call.{resolveCall, lengthsOf, effectNumbers}
 use Rattle.merging.specs.Packing.{effectOf}
-use Rattle.resolve.specs.Answers.{effectsIn, lent}
+use Rattle.settling.specs.Answers.{effectsIn, lent}
 use Rattle.resolve.proofs.Packed.{effects-fit, effects-stand, effects-put}
 use Rattle.resolve.proofs.resolve_under.Statement.{statement}
 use Rattle.resolve.proofs.resolve_under.Tie as tie

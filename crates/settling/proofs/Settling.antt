@@ -33,11 +33,11 @@ use Rattle.group_text.specs.Known.{Entered, GroupsKnown}
 use Rattle.brought.specs.declared.Tally.{Tally}
 use Rattle.brought.specs.Tallies.{noteOf, notesFrom, AllBrings}
 use Rattle.brought.proofs.Adding.{First, first-of}
-use Rattle.resolve.specs.declared.Resolved as lengths
-use Rattle.resolve.specs.Answers.{resolvedAs, Answers}
-use Rattle.resolve.proofs.Answering.{refused-answers, same-answers}
-use Rattle.resolve.specs.Stages.{grounded, settled, Tallied, BroughtThere, Grounding}
-use Rattle.resolve.proofs.Grounds.{over-merged, forced-merged, peace-merged, forced-told, Unforced, merged-told, terms-many, merged-entered, many-grounded, statements-many}
+use Rattle.settling.specs.declared.Resolved as lengths
+use Rattle.settling.specs.Answers.{resolvedAs, Answers}
+use Rattle.settling.proofs.Answering.{refused-answers, same-answers}
+use Rattle.settling.specs.Stages.{grounded, settled, Tallied, BroughtThere, Grounding}
+use Rattle.settling.proofs.Grounds.{over-merged, forced-merged, peace-merged, forced-told, Unforced, merged-told, terms-many, merged-entered, many-grounded, statements-many}
 
 pub accepted-same : {B : Type 0} {x y : List B} → accepted x ≡ accepted y → x ≡ y
 accepted-same {B} {x} e = ap (λ (a : Answer (List B)). orElse a) e

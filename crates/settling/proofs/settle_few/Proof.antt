@@ -1,4 +1,4 @@
--- `resolve::settle_few` meets its contract: few terms are merged and grouped. Assumes nothing.
+-- `settling::settle_few` meets its contract: few terms are merged and grouped. Assumes nothing.
 use Prim.Native.Nat.{_≤_}
 use mathlib.Core.Path.{refl, _∙_, ap, sym}
 use native.Mathlib.Omega.{arith}
@@ -6,13 +6,13 @@ use denote.Ref.{now}
 use borrow.Author.Needs.{needs}
 use Rattle.resolving.specs.Handed.{handedContext}
 use Rattle.merging.proofs.Answers.{merged-plain}
-use Rattle.resolve.specs.Stages.{grounded}
-use Rattle.resolve.specs.Short.{FewAnswers}
-use Rattle.resolve.proofs.Settling.{few-merged, on-merged, grouped-brought}
-use Rattle.resolve.proofs.Measured.{what-is}
-use Rattle.resolve.proofs.Short.{few-grounding, same-few}
-use Rattle.resolve.proofs.settle_few.Statement.{statement}
-use Rattle.resolve.proofs.settle_few.Tie as tie
+use Rattle.settling.specs.Stages.{grounded}
+use Rattle.settling.specs.Short.{FewAnswers}
+use Rattle.settling.proofs.Settling.{few-merged, on-merged, grouped-brought}
+use Rattle.settling.proofs.Measured.{what-is}
+use Rattle.settling.proofs.Short.{few-grounding, same-few}
+use Rattle.settling.proofs.settle_few.Statement.{statement}
+use Rattle.settling.proofs.settle_few.Tie as tie
 
 -- few terms
 few-terms : (c : tie.Else1) → c .before .before .before .before .before .before .before .before .args .tally .terms ≤ 2048

@@ -34,7 +34,7 @@ use Rattle.group_text.specs.Known.{Entered}
 use Rattle.outputs.specs.Entries.{droppedAt, additiveNote}
 use Rattle.brought.specs.Tallies.{noteOf, notesFrom}
 use Rattle.brought.proofs.Adding.{rest-append}
-use Rattle.resolve.specs.Stages.{grounded}
+use Rattle.settling.specs.Stages.{grounded}
 
 module _ (c : Context) (bs : List Brought) where
   pub statements-many : length (outcome c bs .statements) ≡ length (gather staying bs) + length (groups (merged bs))

@@ -23,8 +23,8 @@ use Rattle.resolving.specs.Call.{noteNumbers}
 use Rattle.merging.specs.Packing.{effectOf}
 use Rattle.outputs.specs.Entries.{droppedAt, additiveNote}
 use Rattle.brought.specs.declared.Tally.{Tally}
-use Rattle.resolve.specs.Stages.{Tallied, Grounding}
-use Rattle.resolve.proofs.Grounds.{statements-many, text-pieces, notes-are}
+use Rattle.settling.specs.Stages.{Tallied, Grounding}
+use Rattle.settling.proofs.Grounds.{statements-many, text-pieces, notes-are}
 
 accepted-same : {x y : List Brought} → accepted x ≡ accepted y → x ≡ y
 accepted-same {x} e = ap (λ (a : Answer (List Brought)). orElse a) e

@@ -1,4 +1,4 @@
--- `resolve::resolve_grouped` meets its contract: the ground text is measured, and all is written once there is room for all.
+-- `settling::resolve_grouped` meets its contract: the ground text is measured, and all is written once there is room for all.
 -- Assumes nothing.
 use Prim.Native.Nat.{ℕ, _+_, _≤_}
 use mathlib.Core.Path.{_≡_, refl, _∙_, ap, ap₂, sym, subst}
@@ -21,14 +21,14 @@ use Rattle.operands.specs.Entries.{meaningIn}
 use Rattle.space.specs.Space.{statementsIn}
 use Rattle.merging.specs.Packing.{effectOf}
 use Rattle.outputs.specs.Entries.{additiveNote}
-use Rattle.resolve.specs.declared.Resolved.{Resolved}
-use Rattle.resolve.specs.Answers.{resolvedAs, Answers}
-use Rattle.resolve.specs.Stages.{grounded}
-use Rattle.resolve.proofs.Answering.{refused-answers, short-ground, short-effects, short-notes, room-answers, lengths-same}
-use Rattle.resolve.proofs.Grounds.{many-grounded, long-grounded, fine-grounded}
-use Rattle.resolve.proofs.Measured.{statements-are, text-long, effects-are, effects-many, notes-put, notes-many}
-use Rattle.resolve.proofs.resolve_grouped.Statement.{statement}
-use Rattle.resolve.proofs.resolve_grouped.Tie as tie
+use Rattle.settling.specs.declared.Resolved.{Resolved}
+use Rattle.settling.specs.Answers.{resolvedAs, Answers}
+use Rattle.settling.specs.Stages.{grounded}
+use Rattle.settling.proofs.Answering.{refused-answers, short-ground, short-effects, short-notes, room-answers, lengths-same}
+use Rattle.settling.proofs.Grounds.{many-grounded, long-grounded, fine-grounded}
+use Rattle.settling.proofs.Measured.{statements-are, text-long, effects-are, effects-many, notes-put, notes-many}
+use Rattle.settling.proofs.resolve_grouped.Statement.{statement}
+use Rattle.settling.proofs.resolve_grouped.Tie as tie
 
 -- the ground text's buffer as it was, in place of what came back
 with-same :

@@ -13,8 +13,8 @@ use Rattle.resolving.specs.Resolve as definition
 use Rattle.resolving.specs.Resolve.{groundText}
 use Rattle.resolving.specs.Call as call
 use Rattle.resolving.specs.Call.{exceeds, lengthsIn, roomFor, lengthsOf, outputOf, noteNumbers}
-use Rattle.resolve.specs.declared.Resolved.{Resolved}
-use Rattle.resolve.specs.Answers.{resolvedAs, rooms, PackedIn, Answers}
+use Rattle.settling.specs.declared.Resolved.{Resolved}
+use Rattle.settling.specs.Answers.{resolvedAs, rooms, PackedIn, Answers}
 
 or-true : (y : Bool) → (y || true) ≡ true
 or-true true = refl

@@ -1,4 +1,4 @@
--- `resolve::note_count` meets its contract. Assumes nothing.
+-- `settling::note_count` meets its contract. Assumes nothing.
 use Prim.Native.Nat.{_+_}
 use mathlib.Core.Path.{ap, sym, _∙_}
 use native.Mathlib.Omega.{arith}
@@ -6,8 +6,8 @@ use mathlib.Core.Bool.{Bool}
 use lib.ListN.{length}
 use borrow.Author.Needs.{needs}
 use Rattle.outputs.specs.Entries.{additiveNote}
-use Rattle.resolve.proofs.note_count.Statement.{statement}
-use Rattle.resolve.proofs.note_count.Tie as tie
+use Rattle.settling.proofs.note_count.Statement.{statement}
+use Rattle.settling.proofs.note_count.Tie as tie
 
 returns : tie.Need-returns
 returns c = sym (ap (λ (t : Bool). c .before .args .dropped + length (additiveNote t)) (c .if1 .taken))

@@ -9,9 +9,9 @@ use Rattle.resolving.specs.Resolve.{groundText}
 use Rattle.resolving.specs.Call as call
 use Rattle.resolving.specs.Call.{roomFor, lengthsOf, outputOf, noteNumbers, workAfter}
 use Rattle.merging.specs.Packing.{effectOf}
-use Rattle.resolve.specs.declared.Lengths.{Lengths}
-use Rattle.resolve.specs.declared.Resolved.{Resolved}
-use Rattle.resolve.specs.declared.Resolved.the-variants as resolved
+use Rattle.settling.specs.declared.Lengths.{Lengths}
+use Rattle.settling.specs.declared.Resolved.{Resolved}
+use Rattle.settling.specs.declared.Resolved.the-variants as resolved
 
 abbrev pub lengthsAs : Lengths → call.Lengths
 lengthsAs n = record { ground = n .ground; effects = n .effects; notes = n .notes }

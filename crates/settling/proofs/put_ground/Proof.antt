@@ -1,12 +1,12 @@
--- `resolve::put_ground` meets its contract: what stays, and then the groups.
+-- `settling::put_ground` meets its contract: what stays, and then the groups.
 -- Assumes nothing.
 use mathlib.Core.Path.{_≡_, _∙_, sym}
 use native.Mathlib.Omega.{arith}
 use denote.Ref.{now}
 use borrow.Author.Needs.{needs}
-use Rattle.resolve.proofs.Measured.{text-written}
-use Rattle.resolve.proofs.put_ground.Statement.{statement}
-use Rattle.resolve.proofs.put_ground.Tie as tie
+use Rattle.settling.proofs.Measured.{text-written}
+use Rattle.settling.proofs.put_ground.Statement.{statement}
+use Rattle.settling.proofs.put_ground.Tie as tie
 
 put-stays-requires : tie.Need-put-stays-requires
 put-stays-requires c κs =

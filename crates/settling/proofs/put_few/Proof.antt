@@ -1,4 +1,4 @@
--- `resolve::put_few` meets its contract: the groups are written behind what stays, and all is put out once there is room for all.
+-- `settling::put_few` meets its contract: the groups are written behind what stays, and all is put out once there is room for all.
 -- Assumes nothing.
 use Prim.Native.Nat.{ℕ, _≤_}
 use mathlib.Core.Path.{_≡_, refl, _∙_, ap, ap₂, sym}
@@ -13,14 +13,14 @@ use Rattle.resolving.specs.Handed.{handedContext}
 use Rattle.resolving.specs.Resolve.{outcome, groundText}
 use Rattle.resolving.specs.Call.{noteNumbers}
 use Rattle.merging.specs.Packing.{effectOf}
-use Rattle.resolve.specs.Answers.{resolvedAs}
-use Rattle.resolve.specs.Short.{FewAnswers}
-use Rattle.resolve.proofs.Answering.{room-answers, lengths-same}
-use Rattle.resolve.proofs.Grounds.{fine-grounded}
-use Rattle.resolve.proofs.Settling.{front-stands}
-use Rattle.resolve.proofs.Measured.{statements-are, text-long, text-written, effects-are, effects-many, notes-put, notes-many}
-use Rattle.resolve.proofs.put_few.Statement.{statement}
-use Rattle.resolve.proofs.put_few.Tie as tie
+use Rattle.settling.specs.Answers.{resolvedAs}
+use Rattle.settling.specs.Short.{FewAnswers}
+use Rattle.settling.proofs.Answering.{room-answers, lengths-same}
+use Rattle.settling.proofs.Grounds.{fine-grounded}
+use Rattle.settling.proofs.Settling.{front-stands}
+use Rattle.settling.proofs.Measured.{statements-are, text-long, text-written, effects-are, effects-many, notes-put, notes-many}
+use Rattle.settling.proofs.put_few.Statement.{statement}
+use Rattle.settling.proofs.put_few.Tie as tie
 
 add-if1 : tie.Need-add-if1
 add-if1 c = let g = c .before .before .before .before .before .before .before .pre .4 .known in omega (arith, g .tallied .few, g .known .stand .few)

@@ -1,4 +1,4 @@
--- `resolve::resolve_brought` meets its contract: 18 for the terms, 17, 18 for the groups, and then what is grouped.
+-- `settling::resolve_brought` meets its contract: 18 for the terms, 17, 18 for the groups, and then what is grouped.
 -- Assumes nothing.
 use Prim.Native.Nat.{_≤_}
 use native.Mathlib.Omega.{arith}
@@ -8,11 +8,11 @@ use borrow.Author.Needs.{needs}
 use Rattle.resolving.specs.Handed.{handedContext}
 use Rattle.operands.specs.Entries.{meaningIn}
 use Rattle.space.specs.Space.{statementsIn}
-use Rattle.resolve.proofs.Answering.{refused-answers, same-answers}
-use Rattle.resolve.proofs.Settling.{over-brought, forced-brought, few-merged, on-merged, over-grouped, grouped-brought}
+use Rattle.settling.proofs.Answering.{refused-answers, same-answers}
+use Rattle.settling.proofs.Settling.{over-brought, forced-brought, few-merged, on-merged, over-grouped, grouped-brought}
 use Rattle.merging.proofs.Answers.{merged-plain}
-use Rattle.resolve.proofs.resolve_brought.Statement.{statement}
-use Rattle.resolve.proofs.resolve_brought.Tie as tie
+use Rattle.settling.proofs.resolve_brought.Statement.{statement}
+use Rattle.settling.proofs.resolve_brought.Tie as tie
 
 returns : tie.Need-returns
 returns c bs e =

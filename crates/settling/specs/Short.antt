@@ -14,11 +14,11 @@ use Rattle.resolving.specs.Brought.{Brought, bring, eachFrom}
 use Rattle.resolving.specs.Ground.{staying}
 use Rattle.resolving.specs.Resolve as definition
 use Rattle.brought.specs.declared.Tally.{Tally}
-use Rattle.resolve.specs.declared.Few.{Few}
-use Rattle.resolve.specs.declared.Few.the-variants as few
-use Rattle.resolve.specs.declared.Resolved.the-variants as resolved
-use Rattle.resolve.specs.Answers.{Answers}
-use Rattle.resolve.specs.Stages.{BroughtThere, Grounding}
+use Rattle.settling.specs.declared.Few.{Few}
+use Rattle.settling.specs.declared.Few.the-variants as few
+use Rattle.settling.specs.declared.Resolved.the-variants as resolved
+use Rattle.settling.specs.Answers.{Answers}
+use Rattle.settling.specs.Stages.{BroughtThere, Grounding}
 
 -- `made` has the ground statements of what stays, and is no longer than a ground text may be
 pub record FewThere (c : Context) (t : Tally) (dropped work made : List ℕ) : Type 0 where

@@ -1,0 +1,5 @@
+pub mod Answering
+pub mod Grounds
+pub mod Measured
+pub mod Settling
+pub mod Short
