@@ -16,6 +16,8 @@ use Rattle.forms.specs.Fits.{InText, Fits, AllFit}
 use Rattle.arguments.specs.Answers.{readIn, stepIn, refusedBy}
 use Rattle.syntax.specs.declared.OneArg.{OneArg}
 use Rattle.syntax.specs.declared.OneArg.the-variants as oneArg
+use Rattle.syntax.specs.declared.Opened.{Opened}
+use Rattle.syntax.specs.declared.Opened.the-variants as opened
 use Rattle.syntax.specs.declared.FeatureRead.{FeatureRead}
 use Rattle.syntax.specs.declared.FeatureRead.the-variants as featureRead
 use Rattle.syntax.specs.declared.LetRead.{LetRead}
@@ -32,6 +34,15 @@ unfoldable pub OneFurther : List ℕ → ℕ → OneArg → Type 0
 OneFurther s o (oneArg.Arg a last n) = (o < n .at) × (n .at ≤ length s) × Fits s a
 OneFurther s o (oneArg.Close p n) = (o < n .at) × (n .at ≤ length s)
 OneFurther s o (oneArg.Refused r) = Unit {0}
+
+-- what stands between a feature's keyword and its arguments
+unfoldable pub openedThen : ℕ → List ℕ → Name → Opened → One
+openedThen limit s k (opened.Call m n) = readIn limit s (syntax.argument (featureCall k m [])) (n .at)
+openedThen limit s k (opened.Refused r) = refusedBy r
+
+unfoldable pub OpenedFurther : List ℕ → ℕ → Opened → Type 0
+OpenedFurther s o (opened.Call m n) = (o < n .at) × (n .at ≤ length s)
+OpenedFurther s o (opened.Refused r) = Unit {0}
 
 -- a feature's statement behind its keyword
 unfoldable pub featureThen : ℕ → List ℕ → Name → FeatureRead → One

@@ -2,6 +2,7 @@
 ghost use mathlib.Core.Path.{_≡_};
 ghost use mathlib.Core.Bool.{Bool};
 ghost use mathlib.Core.List.{List, []};
+ghost use Prim.Native.Nat.{ℕ};
 ghost use Rattle.tokens.specs.Class.{classTable};
 ghost use Rattle.reading.specs.Statement.{Name as Name·spec};
 ghost use Rattle.reading.specs.Argument.{Arg as Arg·spec};
@@ -10,7 +11,7 @@ ghost use Rattle.reading.specs.Syntax.{argument as argument·state};
 ghost use Rattle.forms.specs.Items.{nameIn};
 ghost use Rattle.forms.specs.Fits.{InText};
 ghost use Rattle.arguments.specs.Answers.{readIn};
-ghost use Rattle.syntax.specs.Answers.{oneThen, OneFurther, featureThen, FeatureFurther, letThen, LetFurther};
+ghost use Rattle.syntax.specs.Answers.{oneThen, OneFurther, openedThen, OpenedFurther, featureThen, FeatureFurther, letThen, LetFurther};
 use arguments::After;
 use arguments::ArgRead;
 use forms::Arg;
@@ -24,6 +25,12 @@ use tokens::Cursor;
 pub enum OneArg {
     Arg { arg: Arg, last: bool, next: Cursor },
     Close { at: usize, next: Cursor },
+    Refused(Refusal),
+}
+
+// What stands between a feature's keyword and its arguments: `(`, or `?` and `(`.
+enum Opened {
+    Call { optional: bool, next: Cursor },
     Refused(Refusal),
 }
 
@@ -137,26 +144,47 @@ fn read_args(text: &[u8], classes: &Classes, cur: Cursor, optional: bool, limit:
     }
 }
 
-// A feature's statement behind its keyword.
+// A feature's statement behind its keyword, up to its first argument.
+fn open_call(text: &[u8], classes: &Classes, cur: Cursor) -> Opened
+    requires { ⌜ now classes ≡ classTable ⌝ }
+    ensures { λ r. ⌜
+        ((limit : ℕ) (k : Name·spec)
+        → readIn limit (now (text .entry)) (keyword k) (cur .at) ≡ openedThen limit (now (text .entry)) k r)
+        ⌝ }
+    ensures { λ r. ⌜ OpenedFurther (now (text .entry)) (cur .at) r ⌝ }
+{
+    let token = cur.token(text, classes);
+    let next = token.next;
+    if token.kind == b'(' {
+        return Opened::Call {
+            optional: false,
+            next,
+        };
+    }
+    if token.kind != b'?' {
+        return Opened::Refused(arguments::unexpected(token));
+    }
+    let second = next.token(text, classes);
+    let after = second.next;
+    if second.kind != b'(' {
+        return Opened::Refused(arguments::unexpected(second));
+    }
+    Opened::Call {
+        optional: true,
+        next: after,
+    }
+}
+
+// A feature's statement behind its keyword. Its arguments are read at this one place, so the compiler inlines their loop.
 pub fn read_feature(text: &[u8], classes: &Classes, cur: Cursor, limit: u32) -> FeatureRead
     requires { ⌜ now classes ≡ classTable ⌝ }
     ensures { λ r. ⌜ ((k : Name·spec) → readIn limit (now (text .entry)) (keyword k) (cur .at) ≡ featureThen limit (now (text .entry)) k r) ⌝ }
     ensures { λ r. ⌜ FeatureFurther (now (text .entry)) (cur .at) r ⌝ }
 {
-    let token = cur.token(text, classes);
-    let next = token.next;
-    if token.kind == b'(' {
-        return read_args(text, classes, next, false, limit);
+    match open_call(text, classes, cur) {
+        Opened::Call { optional, next } => read_args(text, classes, next, optional, limit),
+        Opened::Refused(r) => FeatureRead::Refused(r),
     }
-    if token.kind != b'?' {
-        return FeatureRead::Refused(arguments::unexpected(token));
-    }
-    let second = next.token(text, classes);
-    let after = second.next;
-    if second.kind != b'(' {
-        return FeatureRead::Refused(arguments::unexpected(second));
-    }
-    read_args(text, classes, after, true, limit)
 }
 
 // The argument of a LET whose name is read, and its `)`.

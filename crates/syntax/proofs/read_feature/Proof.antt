@@ -1,88 +1,39 @@
--- `syntax::read_feature` meets its contract: `(`, or `?` and `(`, and then the arguments. Assumes nothing.
-use mathlib.Core.Path.{refl, _∙_, ap, sym}
+-- `syntax::read_feature` meets its contract: what opens the call, and then the arguments. Assumes nothing.
+use mathlib.Core.Path.{_∙_, ap, subst}
 use native.Mathlib.Omega.{arith}
-use borrow.Author.Tests.{ne-eqb}
-use lib.Dec.{lit≤}
 use denote.Ref.{now}
-use Rattle.reading.specs.Syntax.{turn, keyword, marked}
-use Rattle.tokens.proofs.Views.{Known, known, known-mark}
-use Rattle.arguments.specs.Answers.{refusedBy}
-use Rattle.arguments.proofs.Reading.{read-token, rejected}
-use Rattle.syntax.specs.Answers.{featureThen, FeatureFurther}
+use Rattle.syntax.specs.Answers.{openedThen, OpenedFurther, featureThen, FeatureFurther}
 use Rattle.syntax.proofs.Going.{feature-further}
 use borrow.Author.Needs.{needs}
 use Rattle.syntax.proofs.read_feature.Statement.{statement}
 use Rattle.syntax.proofs.read_feature.Tie as tie
 
--- what the token's kind tells
-here : (d : tie.After-token) → Known (now (d .before .before .args .text)) (d .before .before .args .cur .at) (d .token .result)
-here d = known _ _ (d .token .result) (d .token .ensures)
-
-beyond :
-    (e : tie.After-token2)
-    → Known (now (e .before .before .before .before .before .before .before .before .args .text))
-    (e .before .before .before .before .before .before .token .result .next .at) (e .token2 .result)
-beyond e = known _ _ (e .token2 .result) (e .token2 .ensures)
-
 returns : tie.Need-returns
-unfolding turn
+unfolding openedThen OpenedFurther
 returns c =
     let d = c .before .before .before .before in
     let a = d .before .before .args in
-    let r = known-mark (here d) 40 (c .before .if1 .taken) (lit≤ tt) in (
-      (λ k. read-token (a .limit) _ (keyword k) _ _ _ r ∙ c .read-args .ensures .0 k),
-      feature-further _ _ _ (c .read-args .result) (omega (arith, r .ahead, r .wide)) (c .read-args .ensures .1),
+    let s = now (a .text) in
+    let x = c .before .before .optional .given in
+    let f = subst (OpenedFurther s (a .cur .at)) (x .1) (d .open-call .ensures .1) in (
+      (λ k. d .open-call .ensures .0 (a .limit) k ∙ ap (openedThen (a .limit) s k) (x .1) ∙ c .read-args .ensures .0 k),
+      feature-further s _ _ (c .read-args .result) (omega (arith, f .0)) (c .read-args .ensures .1),
     )
 
 returns-2 : tie.Need-returns-2
-unfolding turn featureThen FeatureFurther
+unfolding openedThen featureThen FeatureFurther
 returns-2 c =
-    let d = c .before .before .before .before .before .before in (
-      (λ k.
-          rejected (d .before .before .args .limit) _ (keyword k) _ (d .token .result) (here d) (λ w e. refl) (λ w e. refl)
-          (λ h. simp (ne-eqb _ 63 (c .before .if2 .taken), ne-eqb _ 40 (c .before .before .before .if1 .left)))
-          ∙ ap refusedBy (sym (c .unexpected .ensures))),
-      tt,
-    )
-
-returns-3 : tie.Need-returns-3
-unfolding turn featureThen FeatureFurther
-returns-3 c =
-    let e = c .before .before .before .before in
-    let d = e .before .before .before .before .before .before in
+    let d = c .before .before .before in
     let a = d .before .before .args in
-    let r = known-mark (here d) 63 (e .before .if2 .left) (lit≤ tt) in (
-      (λ k.
-          read-token (a .limit) _ (keyword k) _ _ _ r
-          ∙ rejected (a .limit) _ (marked k) _ (e .token2 .result) (beyond e) (λ w q. refl) (λ w q. refl)
-          (λ h. simp (ne-eqb _ 40 (c .before .if3 .taken)))
-          ∙ ap refusedBy (sym (c .unexpected2 .ensures))),
-      tt,
-    )
-
-returns-4 : tie.Need-returns-4
-unfolding turn
-returns-4 c =
-    let e = c .before .before .before .before in
-    let d = e .before .before .before .before .before .before in
-    let a = d .before .before .args in
-    let r = known-mark (here d) 63 (e .before .if2 .left) (lit≤ tt) in
-    let q = known-mark (beyond e) 40 (c .before .if3 .left) (lit≤ tt) in (
-      (λ k. read-token (a .limit) _ (keyword k) _ _ _ r ∙ read-token (a .limit) _ (marked k) _ _ _ q ∙ c .read-args2 .ensures .0 k),
-      feature-further _ _ _ (c .read-args2 .result) (omega (arith, r .ahead, r .wide, q .ahead, q .wide)) (c .read-args2 .ensures .1),
-    )
+    ((λ k. d .open-call .ensures .0 (a .limit) k ∙ ap (openedThen (a .limit) (now (a .text)) k) (c .before .r .given .1)), tt)
 
 pub read-feature-spec : {M : Type 1} → statement M
 read-feature-spec =
     tie.close
     (tie.spec
     (λ c κs. search needs)
+    (λ c. search needs)
     (λ c κs. search needs)
+    (λ c. search needs)
     returns
-    (λ c κs. search needs)
-    returns-2
-    (λ c κs. search needs)
-    (λ c κs. search needs)
-    returns-3
-    (λ c κs. search needs)
-    returns-4)
+    returns-2)
