@@ -1,57 +1,56 @@
--- The bytes of a group's ground statement are those of parts whose names are in the block.
+-- The bytes of a group's ground statement, piece by piece.
 -- Assumes nothing.
 use Prim.Native.Nat.{ℕ}
-use mathlib.Core.Path.{_≡_, refl, _∙_, ap, sym}
-use mathlib.Core.Bool.{Bool, true, cond}
-use mathlib.Core.List.{List, [], _∷_}
+use mathlib.Core.Path.{_≡_, refl, _∙_, ap}
+use mathlib.Core.Bool.{Bool}
+use mathlib.Core.List.{List, [], _∷_, _++_, append-assoc, append-nil}
 use lib.ListN.{getD}
-use Rattle.tokens.specs.Token.{Shape, word, number}
-use Rattle.tokens.specs.Spelling.{isNumber, spellAll}
+use borrow.Author.Tests.{eq-eqb, ne-eqb}
+use Rattle.text.specs.Bytes.{bytes}
+use Rattle.tokens.specs.Token.{Shape}
+use Rattle.tokens.specs.Spelling.{spellAll}
 use Rattle.labels.specs.declared.Family.the-variants.{CovariateEffect}
-use Rattle.reading.specs.Statement.{modes, Operator, names}
+use Rattle.labels.specs.Label.{keywords}
+use Rattle.reading.specs.Statement.{modes}
 use Rattle.reading.specs.Parts.{partsOf, featureParts}
-use Rattle.canonical.specs.Canonical.{statementShapes, takenShapes}
-use Rattle.packs.specs.Packs.{places}
-use Rattle.forms.specs.declared.Name.{Name}
-use Rattle.forms.specs.declared.Modes.the-variants as modesForm
-use Rattle.forms.specs.declared.CovariateOp.{CovariateOp}
-use Rattle.forms.specs.Items.{nameIn}
-use Rattle.forms.specs.Fits.{InText}
-use Rattle.forms.specs.Forms.{modesIn, opAs}
-use Rattle.parts.specs.declared.Part as form
-use Rattle.parts.specs.declared.Part.the-variants as part
-use Rattle.parts.specs.declared.Parts.{Parts}
-use Rattle.parts.specs.Meaning.{partsIn, PartsFit}
+use Rattle.canonical.specs.Canonical.{nameShape, modesShapes, operatorShapes, callShapes, statementShapes}
+use Rattle.resolving.specs.Brought.{plainName}
 use Rattle.resolving.specs.Context.{Context, covariates}
 use Rattle.resolving.specs.Ground.{isOptional, operatorAs}
-use Rattle.statement_text.specs.Bytes.{bytesOf}
-use Rattle.grounding.specs.Groups.{groupStatement}
+use Rattle.statement_text.specs.Bytes.{headOf, behind}
+use Rattle.statement_text.proofs.Bytes.{call-bytes, first-argument, name-alone}
+use Rattle.grounding.specs.Groups.{groupStatement, signBytes}
 
--- a name as it is printed, by its bytes
-abbrev shapeOf : List ℕ → Shape
-shapeOf w = cond (isNumber w) (number w) (word w)
+-- the operator: nothing, or `,` and `+`
+pub no-sign : (o : ℕ) → o ≡ 0 → signBytes o ≡ []
+no-sign o e = simp (eq-eqb o 0 e)
 
-abbrev pub groupParts : Name → Name → ℕ → Bool → CovariateOp → Parts
-groupParts n v packed m op =
-    record {
-      keyword = 5;
-      optional = m;
-      first = part.Name n;
-      second = part.Name v;
-      third = part.Modes CovariateEffect (modesForm.List packed);
-      fourth = part.Op op;
-    }
+pub plus-sign : (o : ℕ) → (o ≡ 0 → ⊥) → signBytes o ≡ bytes "," ++ bytes "+"
+plus-sign o n = simp (ne-eqb o 0 n)
 
-pub group-fits :
-    (b : List ℕ) (n v : Name) (packed : ℕ) (m : Bool) (op : CovariateOp) → InText b n → InText b v → PartsFit b (groupParts n v packed m op)
-group-fits b n v packed m op h k = record { first = h; second = k; third = tt; fourth = tt }
+-- three arguments, and those behind them
+three-bytes :
+    (k : List ℕ) (m : Bool) (a b f : List Shape) (more : List (List Shape))
+    → spellAll (callShapes k m (a ∷ b ∷ f ∷ more))
+    ≡ headOf k m ++ (spellAll a ++ (bytes "," ++ (spellAll b ++ (bytes "," ++ (spellAll f ++ (spellAll (behind more) ++ bytes ")"))))))
+three-bytes k m a b f more =
+    call-bytes k m (a ∷ b ∷ f ∷ more)
+    ∙ ap (λ (l : List ℕ). headOf k m ++ (l ++ bytes ")"))
+    (first-argument a (b ∷ f ∷ more)
+    ∙ ap (λ (l : List ℕ). spellAll a ++ (bytes "," ++ l))
+    (first-argument b (f ∷ more) ∙ ap (λ (l : List ℕ). spellAll b ++ (bytes "," ++ l)) (first-argument f more)))
+    ∙ simp append-assoc
 
-module _
-    (c : Context) (p q o k : ℕ) (b : List ℕ) (n v : Name) (packed : ℕ) (m : Bool) (op : CovariateOp)
-    (own : nameIn b n .spelling ≡ getD (c .parameters) p [])
-    (other : nameIn b v .spelling ≡ getD (covariates c) q [])
-    (mark : m ≡ isOptional k)
-    (sign : opAs op ≡ operatorAs o) where
-  pub group-bytes : bytesOf b (groupParts n v packed m op) ≡ spellAll (statementShapes (groupStatement c p q (places packed) o k))
-  unfolding partsIn statementShapes partsOf featureParts modesIn
-  group-bytes = rw (sym own, sym other, sym mark, sym sign) refl
+pub group-bytes :
+    (c : Context) (p v : ℕ) (fs : List ℕ) (o m : ℕ)
+    → spellAll (statementShapes (groupStatement c p v fs o m))
+    ≡ headOf (getD keywords 5 []) (isOptional m)
+    ++ (getD (c .parameters) p []
+    ++ (bytes "," ++ (getD (covariates c) v [] ++ (bytes "," ++ (spellAll (modesShapes CovariateEffect (modes fs)) ++ (signBytes o ++ bytes ")"))))))
+unfolding statementShapes partsOf featureParts
+group-bytes c p v fs o m =
+    let own = plainName (getD (c .parameters) p []) in
+    let other = plainName (getD (covariates c) v []) in
+    three-bytes (getD keywords 5 []) (isOptional m) (nameShape own ∷ []) (nameShape other ∷ []) (modesShapes CovariateEffect (modes fs))
+    (operatorShapes (operatorAs o) ++ [])
+    ∙ rw (name-alone own, name-alone other, append-nil (operatorShapes (operatorAs o))) refl

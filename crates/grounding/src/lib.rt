@@ -12,19 +12,17 @@ ghost use Rattle.labels.specs.Label.{labelsOf, keywords};
 ghost use Rattle.labels.specs.Table.{labelTable, keywordTable};
 ghost use Rattle.canonical.specs.Canonical.{operandShapes, statementShapes};
 ghost use Rattle.packs.specs.Packs.{places};
-ghost use Rattle.forms.specs.Forms.{modesIn, opAs};
+ghost use Rattle.forms.specs.Forms.{modesIn};
 ghost use Rattle.writing.specs.Written.{Room, Written};
 ghost use Rattle.resolving.specs.Brought.{whole, listed};
-ghost use Rattle.resolving.specs.Ground.{operatorAs};
 ghost use Rattle.resolving.specs.Handed.{handedContext};
 ghost use Rattle.context.specs.Lists.{Sound, Stands, namesIn, covariatesOf};
 ghost use Rattle.operands.specs.Picked.{chosen, Picks};
 ghost use Rattle.grounding.specs.Whole.{WholePart, WholeParts};
 ghost use Rattle.grounding.specs.Listed.{listedBytes, eitherBytes, variableBytes};
-ghost use Rattle.grounding.specs.Groups.{groupStatement};
+ghost use Rattle.grounding.specs.Groups.{groupStatement, signBytes};
 use context::Layout;
 use context::Names;
-use forms::CovariateOp;
 use forms::Modes;
 use labels::Family;
 use labels::Keywords;
@@ -218,17 +216,20 @@ pub fn put_variables(
     writing::put(out, second, b')')
 }
 
-fn op_of(operator: u32) -> CovariateOp
-    ensures { λ r. ⌜ opAs r ≡ operatorAs operator ⌝ }
+// Of the operators only `+`, behind its `,`.
+fn put_sign(operator: u32, out: &mut [u8], at: usize) -> usize
+    requires { ⌜ Room at (signBytes operator) ⌝ }
+    ensures { λ r. ⌜ Written (now (out .entry)) at (signBytes operator) (now (out .exit)) r ⌝ }
 {
     if operator == 0 {
-        return CovariateOp::Multiply;
+        return at;
     }
-    CovariateOp::Add
+    let plus = writing::put(out, at, b',');
+    writing::put(out, plus, b'+')
 }
 
-// The ground COVARIATE of a group: a parameter, a covariate, the forms, packed, the operator and the optional mark. All its names are in the
-// block, so it prints as a statement of that text.
+// The ground COVARIATE of a group: a parameter, a covariate, the forms, packed, the operator and the optional mark. It is written piece by
+// piece: no `Parts` are made and taken apart again.
 pub fn put_group(
     block: &[u8],
     classes: &Classes,
@@ -253,15 +254,26 @@ pub fn put_group(
         (groupStatement (handedContext (now (block .entry)) (now (lists .entry))) parameter covariate (places packed) operator optional)))
         (now (out .exit)) r ⌝ }
 {
-    let first = context::pair_at(block, lists, layout.parameters, parameter);
-    let second = context::pair_at(block, lists, context::covariates(layout), covariate);
-    let parts = Parts {
-        keyword: 5,
-        optional: optional != 0,
-        first: Part::Name(first),
-        second: Part::Name(second),
-        third: Part::Modes(Family::CovariateEffect, Modes::List(packed)),
-        fourth: Part::Op(op_of(operator)),
-    };
-    statement_text::put_parts(block, classes, labels, keys, parts, out, at)
+    let inside = statement_text::put_head(keys, 5, optional != 0, out, at);
+    let one = writing::put_all(
+        out,
+        inside,
+        context::name_at(block, lists, layout.parameters, parameter),
+    );
+    let comma = writing::put(out, one, b',');
+    let two = writing::put_all(
+        out,
+        comma,
+        context::name_at(block, lists, context::covariates(layout), covariate),
+    );
+    let again = writing::put(out, two, b',');
+    let three = part_text::put_modes(
+        labels,
+        Family::CovariateEffect,
+        Modes::List(packed),
+        out,
+        again,
+    );
+    let four = put_sign(operator, out, three);
+    writing::put(out, four, b')')
 }
