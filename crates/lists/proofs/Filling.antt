@@ -28,7 +28,7 @@ both true b e = (refl, e)
 both false b e = absurd (true≢false (sym e))
 
 -- the first so many of a list's entries are a list, and so is the next one
-first-listed : (i n : ℕ) (ts : Tokens) → listed n ts ≡ true → i ≤ n → listed i ts ≡ true
+pub first-listed : (i n : ℕ) (ts : Tokens) → listed n ts ≡ true → i ≤ n → listed i ts ≡ true
 unfolding listed
 first-listed zero n ts e h = refl
 first-listed (suc i) zero ts e h = absurd (not-suc-le-zero h)

@@ -1,4 +1,5 @@
 pub mod Holding
-pub mod Going
+pub mod Standing
 pub mod Sources
 pub mod Bringing
+pub mod Values

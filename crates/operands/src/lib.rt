@@ -1,31 +1,29 @@
 // An operand as indexes of the context's entries. "Each resolved list keeps first occurrences. Each name in one, written or brought by a symbol
 // or `*`, is held by 15 to the list that written names are held to there."
 ghost use mathlib.Core.Path.{_≡_};
+ghost use mathlib.Core.List.{map};
 ghost use Prim.Native.Nat.{_+_, _≤_, _<_};
 ghost use lib.ListN.{length, take};
 ghost use Rattle.tokens.specs.Class.{classTable};
 ghost use Rattle.reading.specs.Answer.{accepted};
-ghost use Rattle.resolving.specs.Lists.{placeIn, sameBytes};
 ghost use Rattle.resolving.specs.Operands.{held};
 ghost use Rattle.resolving.specs.Handed.{handedContext};
-ghost use Rattle.forms.specs.Fits.{InText};
+ghost use Rattle.forms.specs.Items.{itemsIn};
+ghost use Rattle.forms.specs.Fits.{Listed};
 ghost use Rattle.parts.specs.Meaning.{OperandFits};
-ghost use Rattle.context.specs.Lists.{namesIn, Sound, Stands, foundAs, covariatesOf};
+ghost use Rattle.context.specs.Lists.{namesIn, Sound, Stands, covariatesOf};
 ghost use Rattle.symbols.specs.Lets.{LetsFit};
 ghost use Rattle.symbols.specs.Sources.{sourceList, SourceFits, LookedFits};
-ghost use Rattle.symbols.specs.Named.{runOf, spelledIn, spellings, Usable};
 ghost use Rattle.symbols.specs.Brings.{listOf, brings, broughtBy};
 ghost use Rattle.operands.specs.Picked.{chosen, standsIn, withIndex, Whole, Picks, heldAs};
 ghost use Rattle.operands.specs.Entries.{entriesAs, StandsFor, parameterNames, covariateNames, parametersIn, covariatesIn};
 use context::Found;
 use context::Layout;
 use context::Names;
-use forms::Name;
+use forms::Items;
 use forms::Operand;
 use symbols::Brought;
 use symbols::Looked;
-use symbols::Named;
-use symbols::Of;
 use symbols::Source;
 use tokens::Classes;
 
@@ -78,65 +76,6 @@ fn among(indexes: &[u8; 64], count: usize, index: u8) -> bool
     false
 }
 
-// One index more, unless it stands there already.
-fn with_index(list: Picked, index: u8) -> Picked
-    requires { ⌜ Whole list × (list .count < 64) ⌝ }
-    ensures { λ r. ⌜ Whole r × (chosen r ≡ withIndex (chosen list) index) × (r .count ≤ list .count + 1) ⌝ }
-{
-    let mut indexes = list.indexes;
-    let count = list.count;
-    if among(&indexes, count, index) {
-        return list;
-    }
-    indexes[count] = index;
-    Picked {
-        count: count + 1,
-        indexes,
-    }
-}
-
-// The place of a name of the text or of the block in a list.
-fn place_of(text: &[u8], block: &[u8], lists: &[u32], of: Of, name: Name, target: Names) -> Found
-    requires { ⌜ Sound (now block) (now lists) target × InText (runOf (now text) (now block) of) name ⌝ }
-    ensures { λ r. ⌜ r ≡ foundAs (placeIn (sameBytes (spelledIn (runOf (now (text .entry)) (now (block .entry)) of) name))
-        (namesIn (now (block .entry)) (now (lists .entry)) target)) ⌝ }
-{
-    match of {
-        Of::Text => context::index_of(block, lists, target, symbols::spelling(text, name)),
-        Of::Block => context::index_of(block, lists, target, symbols::spelling(block, name)),
-    }
-}
-
-// Names held to a list, or that one is not there.
-pub fn hold(text: &[u8], block: &[u8], lists: &[u32], named: Named, target: Names) -> Held
-    requires { ⌜ Usable (now text) (now block) named × Sound (now block) (now lists) target ⌝ }
-    ensures { λ r. ⌜ Picks (target .count) (r .list)
-        × (heldAs r ≡ held (namesIn (now (block .entry)) (now (lists .entry)) target)
-        (accepted (spellings (now (text .entry)) (now (block .entry)) named))) ⌝ }
-{
-    let mut picked = none_picked();
-    let mut i = 0;
-    while i < named.count {
-        let name = named.pairs[i];
-        match place_of(text, block, lists, named.of, name, target) {
-            Found::Place(place) => {
-                picked = with_index(picked, place as u8);
-                i += 1;
-            }
-            Found::Nothing => {
-                return Held {
-                    missing: true,
-                    list: picked,
-                };
-            }
-        }
-    }
-    Held {
-        missing: false,
-        list: picked,
-    }
-}
-
 // One index more, unless it stands there already; and how many there are then.
 fn push_index(indexes: &mut [u8; 64], count: usize, index: u8) -> usize
     requires { ⌜ (length (now indexes) ≡ 64) × (count < 64) ⌝ }
@@ -150,7 +89,49 @@ fn push_index(indexes: &mut [u8; 64], count: usize, index: u8) -> usize
     count + 1
 }
 
-// What a source has in the block, each name held to a list as it is brought, or that one is not there. So no array of pairs is made of them.
+// The values of a LET, or names as they are written, each held to a list as it is read, or that one is not there. So no array of pairs is made
+// of them.
+fn hold_values(
+    text: &[u8],
+    classes: &Classes,
+    block: &[u8],
+    lists: &[u32],
+    items: Items,
+    target: Names,
+) -> Held
+    requires { ⌜ (now classes ≡ classTable) × Listed (now text) items × Sound (now block) (now lists) target ⌝ }
+    ensures { λ r. ⌜ Picks (target .count) (r .list)
+        × (heldAs r ≡ held (namesIn (now (block .entry)) (now (lists .entry)) target)
+        (accepted (map (λ i. i .name .spelling) (itemsIn (now (text .entry)) items)))) ⌝ }
+{
+    let mut indexes = [0; 64];
+    let mut n = 0;
+    let mut i = 0;
+    let mut cur = items.first;
+    while i < items.count {
+        let entry = checks::entry_at(text, classes, cur);
+        let name = entry.name;
+        match context::index_of(block, lists, target, symbols::spelling(text, name)) {
+            Found::Place(place) => {
+                n = push_index(&mut indexes, n, place as u8);
+                cur = checks::past_comma(text, classes, entry.next);
+                i += 1;
+            }
+            Found::Nothing => {
+                return Held {
+                    missing: true,
+                    list: Picked { count: n, indexes },
+                };
+            }
+        }
+    }
+    Held {
+        missing: false,
+        list: Picked { count: n, indexes },
+    }
+}
+
+// What a source has in the block, each name held to a list as it is brought, or that one is not there.
 fn hold_block(block: &[u8], lists: &[u32], layout: Layout, source: Source, target: Names) -> Held
     requires { ⌜ Stands (now block) (now lists) layout × Sound (now block) (now lists) target ⌝ }
     ensures { λ r. ⌜ Picks (target .count) (r .list)
@@ -225,8 +206,7 @@ fn entries_of(
     let Source::Values(items) = source else {
         return entries_held(hold_block(block, lists, layout, source, target));
     };
-    let named = symbols::names_of(text, classes, block, lists, layout, source);
-    entries_held(hold(text, block, lists, named, target))
+    entries_held(hold_values(text, classes, block, lists, items, target))
 }
 
 fn unknown_symbol() -> Entries

@@ -23,8 +23,7 @@ use Rattle.forms.specs.Fits.{InText}
 use Rattle.symbols.specs.declared.Brought.{Brought}
 use Rattle.symbols.specs.declared.Brought.the-variants.{Pair, Nothing}
 use Rattle.symbols.specs.Sources.{isSome}
-use Rattle.symbols.specs.Named.{spelledIn}
-use Rattle.symbols.specs.Brings.{fromBinding, fromDeclared, broughtAs, BroughtFits, Yields}
+use Rattle.symbols.specs.Brings.{fromBinding, fromDeclared, spelledIn, broughtAs, BroughtFits, Yields}
 
 pub yields-nothing : {b : List ℕ} {ws : List (List ℕ)} → ws ≡ [] → Yields b ws Nothing
 yields-nothing e = record { fits = tt; same = sym e }

@@ -10,6 +10,8 @@ use Rattle.resolving.specs.Context.{Binding}
 use Rattle.resolving.specs.Context as context
 use Rattle.resolving.specs.Builtins.{matching, ofKind}
 use Rattle.resolving.specs.Given.{kindOf}
+use Rattle.forms.specs.declared.Name.{Name}
+use Rattle.forms.specs.Items.{nameIn}
 use Rattle.forms.specs.Fits.{InText}
 use Rattle.context.specs.declared.Names.{Names}
 use Rattle.context.specs.declared.Layout.{Layout}
@@ -19,7 +21,6 @@ use Rattle.symbols.specs.declared.Source.the-variants.{Values, Iiv, Temp
 use Rattle.symbols.specs.declared.Brought.{Brought}
 use Rattle.symbols.specs.declared.Brought.the-variants as brought
 use Rattle.symbols.specs.Sources.{ofRoles}
-use Rattle.symbols.specs.Named.{spelledIn}
 
 -- the list of a source
 abbrev pub listOf : Layout → Source → Names
@@ -64,6 +65,10 @@ module _ (b l : List ℕ) (y : Layout) where
 unfoldable pub broughtBy : (ℕ → List (List ℕ)) → ℕ → List (List ℕ)
 broughtBy f zero = []
 broughtBy f (suc n) = broughtBy f n ++ f n
+
+-- the bytes of a name, which is a pair into a text or into the block
+abbrev pub spelledIn : List ℕ → Name → List ℕ
+spelledIn s n = nameIn s n .spelling
 
 -- what an entry brings, as it is answered
 abbrev pub broughtAs : List ℕ → Brought → List (List ℕ)

@@ -1,4 +1,3 @@
 pub mod Lets
 pub mod Sources
-pub mod Named
 pub mod Brings

@@ -1,5 +1,5 @@
 // What a symbol stands for. "A symbol is looked up among the LETs, then among the built-ins of `builtin`, ignoring ASCII case." What is found
-// is a source of names; its names are then made as pairs into the text or into the context's block.
+// is a source of names; each of its names is a pair into the text or into the context's block before it becomes an index (`operands`).
 ghost use mathlib.Core.Path.{_≡_};
 ghost use mathlib.Core.Bool.{cond};
 ghost use mathlib.Core.List.{map};
@@ -7,21 +7,18 @@ ghost use mathlib.Core.Option.{some};
 ghost use Prim.Native.Nat.{_+_, _*_, _≤_, _<_, min};
 ghost use lib.ListN.{length};
 ghost use lib.Dec.{eqb};
-ghost use Rattle.tokens.specs.Class.{classTable};
 ghost use Rattle.labels.specs.Word.{sameWord};
 ghost use Rattle.resolving.specs.Lists.{any, keep, sameBytes};
 ghost use Rattle.resolving.specs.Context.{kindNumber};
 ghost use Rattle.resolving.specs.Builtins as builtins;
 ghost use Rattle.resolving.specs.Builtins.{absorptionRoles, distributionRoles};
 ghost use Rattle.resolving.specs.Given.{kindOf};
-ghost use Rattle.resolving.specs.Handed.{handedContext};
 ghost use Rattle.resolving.specs.Symbols.{definition, lookUp};
 ghost use Rattle.forms.specs.Items.{nameIn, itemsIn};
 ghost use Rattle.forms.specs.Fits.{InText, Listed};
 ghost use Rattle.context.specs.Lists.{Stands, foundAs, listAt};
 ghost use Rattle.symbols.specs.Lets.{keyAt, valuesAt, definitionAt, definitionsIn, lastLet, hasKey, LetsFit, LetPut};
 ghost use Rattle.symbols.specs.Sources.{roleOf, sourceList, SourceFits, LookedFits, Means, MeansAnywhere};
-ghost use Rattle.symbols.specs.Named.{spellings, Usable, Spells};
 ghost use Rattle.symbols.specs.Brings.{listOf, isIiv, brings, broughtBy, broughtAs, BroughtFits, Yields};
 use context::Found;
 use context::Layout;
@@ -31,21 +28,7 @@ use context::pair_at;
 use context::same_bytes;
 use forms::Items;
 use forms::Name;
-use tokens::Classes;
 use tokens::Cursor;
-
-// What the pairs of names point into.
-pub enum Of {
-    Text,
-    Block,
-}
-
-// Names as pairs, before they are held to a list: how many, and which.
-pub struct Named {
-    pub of: Of,
-    pub count: usize,
-    pub pairs: [Name; 64],
-}
 
 // The roles of a template that a built-in takes.
 pub enum Roles {
@@ -368,84 +351,4 @@ pub fn bring(block: &[u8], lists: &[u32], layout: Layout, source: Source, index:
             Brought::Pair(pair_at(block, lists, names, index))
         }
     }
-}
-
-fn no_pairs() -> [Name; 64]
-    ensures { λ r. ⌜ length r ≡ 64 ⌝ }
-{
-    [Name {
-        offset: 0,
-        length: 0,
-    }; 64]
-}
-
-// The names of a source that stand in the block.
-fn of_block(block: &[u8], lists: &[u32], layout: Layout, source: Source) -> Named
-    requires { ⌜ Stands (now block) (now lists) layout ⌝ }
-    ensures { λ r. ⌜ (r .of ≡ Of.Block) × Spells (now (block .entry)) (r .pairs) (r .count)
-        (broughtBy (brings (now (block .entry)) (now (lists .entry)) layout source) (listOf layout source .count)) ⌝ }
-{
-    let names = list_of(layout, source);
-    let mut pairs = no_pairs();
-    let mut count = 0;
-    let mut i = 0;
-    while i < names.count {
-        match bring(block, lists, layout, source, i) {
-            Brought::Pair(name) => {
-                pairs[count] = name;
-                count += 1;
-                i += 1;
-            }
-            Brought::Nothing => {
-                i += 1;
-            }
-        }
-    }
-    Named {
-        of: Of::Block,
-        count,
-        pairs,
-    }
-}
-
-// The values of a LET, or names as they are written.
-fn of_text(text: &[u8], classes: &Classes, items: Items) -> Named
-    requires { ⌜ (now classes ≡ classTable) × Listed (now text) items ⌝ }
-    ensures { λ r. ⌜ (r .of ≡ Of.Text) × Spells (now (text .entry)) (r .pairs) (r .count)
-        (map (λ i. i .name .spelling) (itemsIn (now (text .entry)) items)) ⌝ }
-{
-    let mut pairs = no_pairs();
-    let mut i = 0;
-    let mut cur = items.first;
-    while i < items.count {
-        let entry = checks::entry_at(text, classes, cur);
-        let name = entry.name;
-        pairs[i] = name;
-        cur = checks::past_comma(text, classes, entry.next);
-        i += 1;
-    }
-    Named {
-        of: Of::Text,
-        count: items.count,
-        pairs,
-    }
-}
-
-// The names of a source.
-pub fn names_of(
-    text: &[u8],
-    classes: &Classes,
-    block: &[u8],
-    lists: &[u32],
-    layout: Layout,
-    source: Source,
-) -> Named
-    requires { ⌜ (now classes ≡ classTable) × Stands (now block) (now lists) layout × SourceFits (now text) source ⌝ }
-    ensures { λ r. ⌜ Usable (now (text .entry)) (now (block .entry)) r × (spellings (now (text .entry)) (now (block .entry)) r
-        ≡ sourceList (handedContext (now (block .entry)) (now (lists .entry))) (now (text .entry)) source) ⌝ }
-{
-    let Source::Values(items) = source else {
-        return of_block(block, lists, layout, source);
-    };
-    of_text(text, classes, items)
 }

@@ -9,7 +9,7 @@ use borrow.Author.Tests.{eq-eqb, ne-eqb}
 use lib.Dec.{eqb}
 use lib.ListN.{take, drop, getD}
 use Rattle.operands.specs.Picked.{standsIn}
-use Rattle.operands.proofs.Going.{stands-step, stands-none}
+use Rattle.operands.proofs.Standing.{stands-step, stands-none}
 use Rattle.operands.proofs.among.Statement.{statement}
 use Rattle.operands.proofs.among.Tie as tie
 

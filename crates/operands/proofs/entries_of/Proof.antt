@@ -29,25 +29,23 @@ returns c =
           (source-brought (now (a .block)) (now (a .lists)) (a .layout) (s .pre .1) (now (a .text)) (a .source) (m .match .keys2)),
     )
 
-names-of-requires : tie.Need-names-of-requires
-names-of-requires c κs =
+hold-values-requires : tie.Need-hold-values-requires
+hold-values-requires c κs =
     let x = c .before in
     let s = x .before .before .before .before .before in
-    (s .pre .0, s .pre .1, subst (SourceFits (now (s .args .text))) (x .source .given .1) (s .pre .2))
+    (s .pre .0, subst (SourceFits (now (s .args .text))) (x .source .given .1) (s .pre .2), s .pre .3)
 
 returns-2 : tie.Need-returns-2
 returns-2 c =
     let h = c .before in
-    let n = h .before in
-    let x = n .before .before in
+    let x = h .before .before in
     let s = x .before .before .before .before .before in
     let a = s .args in
     let k = handedContext (now (a .block)) (now (a .lists)) in
     let e = c .entries-held2 .ensures in (
-      subst (Picks (a .target .count)) (sym (e .0)) (h .hold .ensures .0),
+      subst (Picks (a .target .count)) (sym (e .0)) (h .hold-values .ensures .0),
       e .1
-          ∙ h .hold .ensures .1
-          ∙ ap (λ (ws : List (List ℕ)). held (namesIn (now (a .block)) (now (a .lists)) (a .target)) (accepted ws)) (n .names-of .ensures .1)
+          ∙ h .hold-values .ensures .1
           ∙ ap (λ (y : Source). held (namesIn (now (a .block)) (now (a .lists)) (a .target)) (accepted (sourceList k (now (a .text)) y)))
           (sym (x .source .given .1)),
     )
@@ -60,7 +58,6 @@ entries-of-spec =
     (λ c κs. let s = c .before .before .before .before in (s .pre .1, s .pre .3))
     (λ c κs. search needs)
     returns
-    names-of-requires
-    (λ c κs. (c .names-of .ensures .0, c .before .before .before .before .before .before .before .pre .3))
+    hold-values-requires
     (λ c κs. search needs)
     returns-2)

@@ -14,8 +14,7 @@ use Rattle.context.specs.declared.Names.{Names}
 use Rattle.context.specs.Lists.{namesIn, foundAs}
 use Rattle.context.proofs.Pairs.{names-length}
 use Rattle.context.proofs.Places.{found-at, found-nowhere}
-use Rattle.symbols.specs.Named.{spelledIn}
-use Rattle.symbols.specs.Brings.{listOf, brings, broughtAs, BroughtFits}
+use Rattle.symbols.specs.Brings.{listOf, brings, spelledIn, broughtAs, BroughtFits}
 use Rattle.symbols.proofs.Sources.{list-few}
 use Rattle.operands.specs.declared.Picked.{Picked}
 use Rattle.operands.specs.Picked.{Picks}
