@@ -39,6 +39,9 @@ use tokens::Classes;
 // How many elements the working buffer has to have.
 pub const WORKING: usize = 6656;
 
+// A text with at most so many bytes is short: it is tried first in the way for few statements.
+pub const SHORT: usize = 1024;
+
 // The faults of resolving that are found here, by their numbers.
 pub const WRONG_CONTEXT: u8 = 12;
 
@@ -196,6 +199,47 @@ fn resolve_read(
     }
 }
 
+// The answer of a text of any length. It is called rather than a part of `resolve_in`: the space of a text's statements is large, and a short text
+// does not need it.
+fn resolve_long(
+    text: &[u8],
+    classes: &Classes,
+    labels: &Labels,
+    keys: &Keywords,
+    block: &[u8],
+    lists: &[u32],
+    ground: &mut [u8],
+    room: usize,
+    notes: &mut [[u8; 2]],
+    work: &mut [u32],
+    limit: u32,
+) -> Resolved
+    requires { ⌜ (now classes ≡ classTable) × (now labels ≡ labelTable) × (now keys ≡ keywordTable)
+        × Admitted limit (now text) × (6656 ≤ length (now work)) ⌝ }
+    ensures { λ r. ⌜ Answers (resolveHanded limit (now (block .entry)) (now (lists .entry)) (now (text .entry)))
+        (now (ground .entry)) room (now (notes .entry))
+        (now (ground .exit)) (now (notes .exit)) (now (work .exit)) r ⌝ }
+{
+    let space = space::read_space(text, classes, labels, keys, limit);
+    let ending = space.ending;
+    match ending {
+        Ending::Refused(r) => Resolved::Refused(r),
+        Ending::Accepted => resolve_read(
+            text,
+            classes,
+            labels,
+            keys,
+            block,
+            lists,
+            space,
+            ground,
+            room,
+            notes,
+            work,
+        ),
+    }
+}
+
 // The answer of a text of few statements, in a context that was checked.
 fn resolve_few(
     text: &[u8],
@@ -271,9 +315,6 @@ fn resolve_short(
         (now (ground .entry)) room (now (notes .entry))
         (now (ground .exit)) (now (notes .exit)) (now (work .exit)) r ⌝ }
 {
-    if 1024 < text.len() {
-        return Few::Other;
-    }
     let Checked::Context(layout) = context::check(block, classes, lists) else {
         return Few::Other;
     };
@@ -318,6 +359,21 @@ fn resolve_in(
     let classes = tokens::CLASSES;
     let labels = labels::LABELS;
     let keys = labels::KEYWORDS;
+    if SHORT < text.len() {
+        return resolve_long(
+            text,
+            &classes,
+            &labels,
+            &keys,
+            block,
+            lists,
+            ground,
+            room,
+            notes,
+            work,
+            limit,
+        );
+    }
     match resolve_short(
         text,
         &classes,
@@ -331,27 +387,19 @@ fn resolve_in(
         work,
         limit,
     ) {
-        Few::Lengths(n) => {
-            return Resolved::Lengths(n);
-        }
-        Few::Other => {}
-    }
-    let space = space::read_space(text, &classes, &labels, &keys, limit);
-    let ending = space.ending;
-    match ending {
-        Ending::Refused(r) => Resolved::Refused(r),
-        Ending::Accepted => resolve_read(
+        Few::Lengths(n) => Resolved::Lengths(n),
+        Few::Other => resolve_long(
             text,
             &classes,
             &labels,
             &keys,
             block,
             lists,
-            space,
             ground,
             room,
             notes,
             work,
+            limit,
         ),
     }
 }

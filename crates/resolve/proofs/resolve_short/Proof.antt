@@ -10,31 +10,26 @@ returns : tie.Need-returns
 unfolding FewAnswers
 returns c = (refl, refl)
 
-returns-2 : tie.Need-returns-2
-unfolding FewAnswers
-returns-2 c = (refl, refl)
-
 resolve-few-requires : tie.Need-resolve-few-requires
 resolve-few-requires c κs =
     let x = c .before .before .before .before in
     let k = x .before .before in
-    let p = k .before .before .before .before .before .before .before .pre in
+    let p = k .before .before .before .before .before .before .pre in
     (p .0, p .1, p .2, checked-stands _ _ _ (sym (k .check .ensures) ∙ x .layout .given .1), p .3, p .4)
 
-returns-3 : tie.Need-returns-3
-returns-3 c = c .before .before .before .before .before .resolve-few .ensures
+returns-2 : tie.Need-returns-2
+returns-2 c = c .before .before .before .before .before .resolve-few .ensures
 
 pub resolve-short-spec : {M : Type 1} → statement M
 resolve-short-spec =
     tie.close
     (tie.spec
-    returns
     (λ c κs. search needs)
     (λ c. search needs)
     (λ c. search needs)
-    returns-2
+    returns
     resolve-few-requires
     (λ c. search needs)
     (λ c. search needs)
     (λ c. search needs)
-    returns-3)
+    returns-2)
