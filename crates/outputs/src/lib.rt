@@ -1,4 +1,5 @@
-// What Resolve writes: a ground text that was made elsewhere, effects and notes, and zeros into the working buffer.
+// What Resolve writes: a ground text that was made elsewhere, effects and notes; and into the working buffer packed effects that were made elsewhere,
+// and zeros.
 ghost use mathlib.Core.Path.{_≡_};
 ghost use mathlib.Core.Bool.{cond};
 ghost use mathlib.Core.List.{[], _∷_, _++_, map};
@@ -73,6 +74,18 @@ pub fn put_text(out: &mut [u8], text: &[u8], count: usize)
     let mut i = 0;
     while i < count {
         out[i] = text[i];
+        i += 1;
+    }
+}
+
+// The first so many effects of a packed run that was made on a bench, packed as they are.
+pub fn put_packed(work: &mut [u32], bench: &[u32], count: usize)
+    requires { ⌜ (count ≤ length (now work)) × (count ≤ length (now bench)) ⌝ }
+    ensures { λ _. ⌜ now (work .exit) ≡ take count (now (bench .entry)) ++ drop count (now (work .entry)) ⌝ }
+{
+    let mut i = 0;
+    while i < count {
+        work[i] = bench[i];
         i += 1;
     }
 }

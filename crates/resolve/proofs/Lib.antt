@@ -1,3 +1,4 @@
+pub mod Bench
 pub mod Calling
 pub mod Packed
 pub mod Short

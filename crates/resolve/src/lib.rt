@@ -47,6 +47,13 @@ pub const WRONG_CONTEXT: u8 = 12;
 
 pub const SECOND_LET: u8 = 13;
 
+// The bench of merging, with nothing on it. Its contract names its length alone: where it is used, goals would show each of its numbers.
+fn no_bench() -> [u32; 6656]
+    ensures { λ r. ⌜ length r ≡ 6656 ⌝ }
+{
+    [0; 6656]
+}
+
 // The answer of statements whose LETs were collected.
 fn resolve_collected(
     text: &[u8],
@@ -65,13 +72,15 @@ fn resolve_collected(
     work: &mut [u32],
 ) -> Resolved
     requires { ⌜ (now classes ≡ classTable) × (now labels ≡ labelTable) × (now keys ≡ keywordTable) × Stands (now block) (now lists) layout
-        × LetsFit (now text) (now lets) n × Whole space × FitAll (now text) space × (6656 ≤ length (now work)) ⌝ }
+        × LetsFit (now text) (now lets) n × Whole space × FitAll (now text) space × (2048 ≤ length (now work)) ⌝ }
     ensures { λ r. ⌜ Answers (settled (handedContext (now (block .entry)) (now (lists .entry)))
         (eachFrom (bring (handedContext (now (block .entry)) (now (lists .entry)))
         (meaningIn (now (text .entry)) (now (lets .entry)) n (handedContext (now (block .entry)) (now (lists .entry)))))
         0 (statementsIn (now (text .entry)) space))) (now (ground .entry)) room (now (notes .entry))
         (now (ground .exit)) (now (notes .exit)) (now (work .exit)) r ⌝ }
 {
+    // Merging's table and groups stand on a bench of its own, so that the working buffer has to hold the effects alone.
+    let mut bench = no_bench();
     let mut dropped = [0; 256];
     let tally = match brought::bring_all(
         text,
@@ -84,7 +93,7 @@ fn resolve_collected(
         lets,
         n,
         space,
-        work,
+        &mut bench,
         &mut dropped,
         &mut ground[..0],
     ) {
@@ -93,7 +102,7 @@ fn resolve_collected(
         }
         AllBrought::Tally(tally) => tally,
     };
-    settling::resolve_brought(
+    let resolved = settling::resolve_brought(
         text,
         classes,
         labels,
@@ -109,8 +118,11 @@ fn resolve_collected(
         ground,
         room,
         notes,
-        work,
-    )
+        &mut bench,
+    );
+    let count = effect_count(resolved);
+    outputs::put_packed(work, &bench, count);
+    resolved
 }
 
 // The answer of the statements of a text, in a context that was checked.
@@ -129,7 +141,7 @@ fn resolve_checked(
     work: &mut [u32],
 ) -> Resolved
     requires { ⌜ (now classes ≡ classTable) × (now labels ≡ labelTable) × (now keys ≡ keywordTable) × Stands (now block) (now lists) layout
-        × Whole space × FitAll (now text) space × (length (now text) ≤ 16384) × (6656 ≤ length (now work)) ⌝ }
+        × Whole space × FitAll (now text) space × (length (now text) ≤ 16384) × (2048 ≤ length (now work)) ⌝ }
     ensures { λ r. ⌜ Answers (definition.resolve (handedContext (now (block .entry)) (now (lists .entry))) (statementsIn (now (text .entry)) space))
         (now (ground .entry)) room (now (notes .entry))
         (now (ground .exit)) (now (notes .exit)) (now (work .exit)) r ⌝ }
@@ -174,7 +186,7 @@ fn resolve_read(
     work: &mut [u32],
 ) -> Resolved
     requires { ⌜ (now classes ≡ classTable) × (now labels ≡ labelTable) × (now keys ≡ keywordTable)
-        × Whole space × FitAll (now text) space × (length (now text) ≤ 16384) × (6656 ≤ length (now work)) ⌝ }
+        × Whole space × FitAll (now text) space × (length (now text) ≤ 16384) × (2048 ≤ length (now work)) ⌝ }
     ensures { λ r. ⌜ Answers (cond (isHanded (now (block .entry)) (now (lists .entry)))
         (definition.resolve (handedContext (now (block .entry)) (now (lists .entry))) (statementsIn (now (text .entry)) space)) (refused 12 0))
         (now (ground .entry)) room (now (notes .entry))
@@ -215,7 +227,7 @@ fn resolve_long(
     limit: u32,
 ) -> Resolved
     requires { ⌜ (now classes ≡ classTable) × (now labels ≡ labelTable) × (now keys ≡ keywordTable)
-        × Admitted limit (now text) × (6656 ≤ length (now work)) ⌝ }
+        × Admitted limit (now text) × (2048 ≤ length (now work)) ⌝ }
     ensures { λ r. ⌜ Answers (resolveHanded limit (now (block .entry)) (now (lists .entry)) (now (text .entry)))
         (now (ground .entry)) room (now (notes .entry))
         (now (ground .exit)) (now (notes .exit)) (now (work .exit)) r ⌝ }

@@ -37,7 +37,7 @@ resolve-long-requires : tie.Need-resolve-long-requires
 unfolding classTable classOf labelTable labelsOf keywordTable keywords
 resolve-long-requires c κs =
     let e = c .before .before .before .before .before .before .before in
-    (refl, refl, refl, fine e, e .before .before .before .before .before .before .before .before .pre)
+    (refl, refl, refl, fine e, omega (arith, e .before .before .before .before .before .before .before .before .pre))
 
 returns-2 : tie.Need-returns-2
 returns-2 c = c .before .before .before .before .before .resolve-long .ensures
@@ -64,8 +64,8 @@ unchanged : (o : tie.After-enum-told2)
 unfolding FewAnswers
 unchanged o = subst (FewAnswers _ _ _ _ _ _ _) (o .enum-told2 .given .1) (o .before .before .before .before .before .before .before .resolve-short .ensures)
 
--- and the working buffer is as long
-work-long : (o : tie.After-enum-told2) → 6656 ≤ length (o .before .before .before .before .before .before .before .resolve-short .last .1 .1 .1 .1 .1 .1 .1 .1 .1 .0)
+-- and the working buffer is as long, which is enough for the effects
+work-long : (o : tie.After-enum-told2) → 2048 ≤ length (o .before .before .before .before .before .before .before .resolve-short .last .1 .1 .1 .1 .1 .1 .1 .1 .1 .0)
 work-long o =
     let s = admitted-at o .before .before .before .before .before .before .before .before in
     let e : length (o .before .before .before .before .before .before .before .resolve-short .last .1 .1 .1 .1 .1 .1 .1 .1 .1 .0) ≡ length (now (s .args .work)) = search needs in
