@@ -69,3 +69,14 @@ pub record Groups (m : ℕ) (before after : List ℕ) (r : Grouped) : Type 0 whe
   pub kept : Kept before after
   pub effects : take m after ≡ take m before
   pub answer : GroupedAs (map effectOf (take m before)) after r
+
+-- The same of groups that stand in a run of their own, from 0 on: a group's number, and its forms.
+pub record GroupListed (es : List Effect) (listed : List ℕ) (j : ℕ) : Type 0 where
+  pub group : drop j (groups es) ≡ groupAs (getD listed (2 * j) 0) ∷ drop (suc j) (groups es)
+  pub forms : places (getD listed (2 * j + 1) 0) ≡ formsIn es (groupAs (getD listed (2 * j) 0))
+  pub snug : Snug (getD listed (2 * j + 1) 0)
+
+pub record GroupsListed (es : List Effect) (listed : List ℕ) (k : ℕ) : Type 0 where
+  pub count : k ≡ length (groups es)
+  pub few : k ≤ 256
+  pub each : (j : ℕ) → j < k → GroupListed es listed j

@@ -35,6 +35,11 @@ abbrev pub foundAs : Found → Option ℕ
 foundAs (found.Forced s) = some s
 foundAs found.Nothing = none
 
+-- the other way, for a crate that finds it in another way
+abbrev pub foundOf : Option ℕ → Found
+foundOf (some s) = found.Forced s
+foundOf none = found.Nothing
+
 -- Whether a term goes, by its pair's number; that number after it; and the term as it stays.
 abbrev pub goneBy : Pass → ℕ → ℕ → Bool
 goneBy passes.Overridden w v = not (eqb (w / 131072 % 2) 1) && eqb v 1

@@ -1,0 +1,6 @@
+pub mod Forcing
+pub mod Staying
+pub mod Sifting
+pub mod Settling
+pub mod Listed
+pub mod Listing
