@@ -79,7 +79,7 @@ extern "C" {
 #define MFL_GROUND_ROOM 16384
 #define MFL_EFFECT_ROOM 2048
 #define MFL_NOTE_ROOM 257
-#define MFL_WORKING 6656
+#define MFL_WORKING 2048
 
 /* How many bytes of ground text, effects and notes an answer of mfl_resolve gives, where it is no refusal. */
 #define MFL_GROUND(answer) ((size_t)((answer) & 0xffff))

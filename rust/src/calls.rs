@@ -107,7 +107,7 @@ pub fn profile_under(text: &[u8], ceiling: u32) -> Result<(), Refusal> {
 }
 
 /// How many elements Resolve's working buffer has to have.
-pub const WORKING: usize = 6656;
+pub const WORKING: usize = 2048;
 /// The most effects that Resolve gives.
 pub const MAX_EFFECTS: usize = 2048;
 /// The most notes that Resolve gives.

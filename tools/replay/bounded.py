@@ -5,7 +5,7 @@ import sys
 import judged
 from contexts import Context
 from handed import Handed
-from resolved import K, K_WORDS, request, resolve, words
+from resolved import K, K_WORDS, WORKING, request, resolve, words
 
 
 def lists(*some):
@@ -132,6 +132,47 @@ LIMITS = [
 ]
 
 
+# Around the sizes up to which the program has a way of its own for short texts: statements, bytes, LETs, terms, bytes of ground text. Texts that
+# are resolved, and below such as are refused, by hand.
+SIZES = [2, 31, 32, 33, 34, 63, 64, 65]
+MANY = wide(8, 8, 3)
+
+
+def around(n):
+    """Texts of n statements; LETs; effects."""
+    passed = ["LAGTIME(ON)"] * (n - 2)
+    yield K, ";".join(["COVARIATE?(CL,@X,lin)", *passed, "LET(x,[WT])"])
+    yield K, ";".join([*passed, "IIV(@PK,EXP)", "COVARIATE(@IIV,WT,exp)"])
+    yield K, ";".join([*(f"LET(A{i},WT)" for i in range(n)), f"COVARIATE?(CL,@a{n - 1},lin)"])
+    yield MANY, f"COVARIATE?(P00,[{','.join(names('C', 8, 3))}],lin);" + times(n, "COVARIATE?(P01,C01,[lin,exp])")
+    yield MANY, ";".join([*(f"COVARIATE?(P0{i % 7},C0{i // 7 % 8},exp)" for i in range(n)), "COVARIATE?(*,C00,lin)", "COVARIATE(P07,C07,pow)"])
+    yield MANY, ";".join([*(f"COVARIATE?(@PK,C0{i % 8},pow)" for i in range(n // 8)), "COVARIATE(@IIV,C03,pow)", "COVARIATE?(P03,[C03,C04],lin)"])
+    for least in (1023, 1024, 1025):
+        yield K, f"IIV(@PK,EXP);{';' * n}LAGTIME(ON)".ljust(least)
+
+
+def long_names(n):
+    """Ground statements of so many names of 32 bytes: 2,048 bytes and about as many, from a short text."""
+    return wide(n, 2, 32), "IIV(@PK,EXP);COVARIATE?(*,*,lin);IOV(*,[ADD,EXP])"
+
+
+def refused_around(n):
+    """Texts whose last statement, of n, is refused, and such as end in a fault of reading, which comes first."""
+    passed = ["LAGTIME(ON)"] * (n - 2)
+    for first, last, number in [
+        ("LET(A,CL)", "LET(a,V)", 13), ("LAGTIME(ON)", "IIV(@X,EXP)", 14), ("LET(X,Q)", "IIV(@X,EXP)", 15), ("LAGTIME(ON)", "IIV(Q,EXP)", 15),
+        ("LAGTIME(ON)", "COVARIATE(CL,SEX,lin)", 16), ("COVARIATE(CL,WT,lin)", "COVARIATE(CL,WT,exp)", 17),
+    ]:
+        text = ";".join([first, *passed, last])
+        yield text, K_WORDS, b"refused %d %d" % (number, n - 1)
+        yield text + ";FOO(", K_WORDS, b"refused 3 %d" % (len(text) + 5)
+
+
+def borders(program):
+    texts = [made for n in SIZES for made in around(n)] + [long_names(n) for n in (29, 30, 31, 32, 59, 60, 61, 62, 63, 64)]
+    return [*resolve(program, texts), *(made for n in SIZES for made in refused_around(n))]
+
+
 def at_limits(program):
     made = resolve(program, [(context, text) for context, text, _, _ in LIMITS])
     for (context, _, over, refusal), resolved in zip(LIMITS, made):
@@ -154,7 +195,7 @@ SHORT = b"refused 19 0"
 def lengths_of(answer):
     """How many bytes, effects and notes an answer has, and the working length."""
     _, ground, effects, notes = answer.split(b" ")
-    return [len(ground) // 2, *(0 if part == b"-" else part.count(b",") + 1 for part in (effects, notes)), 6656]
+    return [len(ground) // 2, *(0 if part == b"-" else part.count(b",") + 1 for part in (effects, notes)), WORKING]
 
 
 def one_less(lengths):
@@ -166,9 +207,9 @@ def lent(program):
     """Requests with lengths: as long as the answer, and longer, and longer than any; one less; nothing at all."""
     for text, where, answer in resolve(program, [(K, text) for text in ROOM]):
         exact = lengths_of(answer)
-        enough = [exact, [n + 1 for n in exact], [16384, 2048, 257, 6656], [65536, 4096, 512, 8192], [65537, 4097, 513, 8193], [HUGE] * 4]
-        too_few = [*one_less(exact), [16384, 2048, 257, 0], [16384, 2048, 257, 6655], [0, 0, 0, 0]]
-        (enough if exact[:3] == [0, 0, 0] else too_few).append([0, 0, 0, 6656])
+        enough = [exact, [n + 1 for n in exact], [16384, 2048, 257, WORKING], [65536, 4096, 512, 8192], [65537, 4097, 513, 8193], [HUGE] * 4]
+        too_few = [*one_less(exact), [16384, 2048, 257, 0], [16384, 2048, 257, WORKING - 1], [0, 0, 0, 0]]
+        (enough if exact[:3] == [0, 0, 0] else too_few).append([0, 0, 0, WORKING])
         for rows, wanted in ((enough, answer), (too_few, SHORT)):
             for row in rows:
                 yield request(text, where, b" %d,%d,%d,%d" % tuple(row)), wanted
@@ -176,10 +217,10 @@ def lent(program):
         for row in [lengths_of(answer), *one_less(lengths_of(answer))]:
             yield request(text, where, b" %d,%d,%d,%d" % tuple(row)), answer if row == lengths_of(answer) else SHORT
     for text, refusal in NO_ROOM:
-        for row, wanted in ((b" 0,0,0,6656", refusal), (b" 0,0,0,6655", SHORT), (b" 16384,2048,257,6655", SHORT)):
+        for row, wanted in ((b" 0,0,0,%d" % WORKING, refusal), (b" 0,0,0,%d" % (WORKING - 1), SHORT), (b" 16384,2048,257,%d" % (WORKING - 1), SHORT)):
             yield request(text, K_WORDS, row), wanted
-    yield request("", b"00 434c 0+3////", b" 0,0,0,6656"), b"refused 12 0"
-    yield request("", b"00 434c 0+3////", b" 0,0,0,6655"), SHORT
+    yield request("", b"00 434c 0+3////", b" 0,0,0,%d" % WORKING), b"refused 12 0"
+    yield request("", b"00 434c 0+3////", b" 0,0,0,%d" % (WORKING - 1)), SHORT
 
 
 HEX, REST = b"4c414754494d45284f4e29", b"00 434c 0+2////"
@@ -188,7 +229,7 @@ HEX, REST = b"4c414754494d45284f4e29", b"00 434c 0+2////"
 ODD_LINES = [
     (b"resolve - 00 - ////", b"ok - - -"), (b"resolve - 11 - ////", b"ok - - -"), (b"resolve - 00 434c 0+2////", b"ok - - -"),
     (b"resolve - 00 434C 00+002////", b"ok - - -"), (b"resolve " + HEX.upper() + b" 01 - ////", b"ok %s - -" % HEX),
-    (b"resolve " + HEX + b" " + REST + b" 011,0,000,006656", b"ok %s - -" % HEX), (b"resolve 24 00 434c 0+3////", b"refused 2 0"),
+    (b"resolve " + HEX + b" " + REST + b" 011,0,000,00%d" % WORKING, b"ok %s - -" % HEX), (b"resolve 24 00 434c 0+3////", b"refused 2 0"),
     (b"resolve - 00 434c " + b",".join([b"0+1"] * 8188) + b"////", b"refused 12 0"), (b"resolve ff 00 - ////", b"refused 2 0"),
     (b"resolve 23ff 00 - ////", b"ok - - -"), (b"resolve - 00 - 4294967295+4294967295////", b"refused 12 0"),
     (b"resolve - 10 - //4294967295+4294967295=4294967295+4294967295//", b"refused 12 0"), (b"resolve - 01 - ///0+0:4294967295/", b"refused 12 0"),
@@ -218,5 +259,5 @@ LINES = [
 
 def pairs(program):
     """The requests and their answers."""
-    made = [(request(text, where), answer) for text, where, answer in [*damaged(), *at_limits(program)]]
+    made = [(request(text, where), answer) for text, where, answer in [*damaged(), *at_limits(program), *borders(program)]]
     return made + [*lent(program)] + ODD_LINES + [(line, judged.NO_REQUEST) for line in LINES]

@@ -5,7 +5,7 @@ import sys
 
 import judged
 from places import located
-from resolved import K, K_WORDS, request, resolve
+from resolved import K, K_WORDS, WORKING, request, resolve
 from texts import number_of
 
 CEILINGS = [0, 3, 65, 256]
@@ -41,7 +41,7 @@ LINES = [
     (b"under 256 print - 0", b"ok -"), (b"under 0 statement 0 -", b"refused 20 0"), (b"under 257 tokens 41", b"ok W:41"),
     (b"under 4294967295 tokens", b"ok"), (b"under 257 tokens 24", b"refused 2 0"), (b"under 3 tokens -", b"ok"),
     (b"under 3 resolve - 00 - ////", b"ok - - -"), (b"under 3 resolve - 00 434c 0+3////", b"refused 12 0"),
-    (b"under 257 resolve - 00 434c 0+3////", HIGH), (b"under 257 resolve - 00 434c 0+3//// 0,0,0,6655", SHORT),
+    (b"under 257 resolve - 00 434c 0+3////", HIGH), (b"under 257 resolve - 00 434c 0+3//// 0,0,0,%d" % (WORKING - 1), SHORT),
     *[(line, judged.NO_REQUEST) for line in [
         b"under", b"under ", b"under 3", b"under 64", b"under 3 ", b"under x count -", b"under -1 count -", b"under +3 count -", b"under 3.0 count -",
         b"under 0x3 count -", b"under  3 count -", b"under 3  count -", b"under 3 counts -", b"under count -", b"under 4294967296 count -",
@@ -89,7 +89,7 @@ def answers(program, form, text, number, mark):
     if number == 0:
         return [*zip(asked(text), told(program, text))]
     refusal = refused(program, text, number, place_of(mark, form))
-    return [*((line, refusal) for line in [*asked(text), request(text, K_WORDS)]), (request(text, K_WORDS, b" 0,0,0,6655"), SHORT)]
+    return [*((line, refusal) for line in [*asked(text), request(text, K_WORDS)]), (request(text, K_WORDS, b" 0,0,0,%d" % (WORKING - 1)), SHORT)]
 
 
 def reading(ceiling):
@@ -114,7 +114,7 @@ def above():
         for line in [b"count -", b"count " + LAG, b"count 24", b"print " + LAG, b"print " + LAG + b" 0", b"statement 0 " + LAG, b"statement 9 " + LAG]:
             yield under(ceiling, line), HIGH
         for text in ("", "LAGTIME(ON)", "$", "IIV(@X,EXP)"):
-            for row, wanted in ((b"", HIGH), (b" 0,0,0,6656", HIGH), (b" 16384,2048,257,6655", SHORT), (b" 0,0,0,0", SHORT)):
+            for row, wanted in ((b"", HIGH), (b" 0,0,0,%d" % WORKING, HIGH), (b" 16384,2048,257,%d" % (WORKING - 1), SHORT), (b" 0,0,0,0", SHORT)):
                 yield under(ceiling, request(text, K_WORDS, row)), wanted
     yield under(257, b"count " + b"20" * 16385), HIGH
     yield under(257, b"print " + b"24" * 16385), HIGH

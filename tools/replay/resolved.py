@@ -17,6 +17,9 @@ def context(parameters, iiv, template, declared, columns):
     return Context(parameters.split(), iiv.split(), bindings, block, columns.split())
 
 
+# The working length that docs/CALLS.md states.
+WORKING = 2048
+
 K = context("CL V KA", "CL V", "cl=CL v=V ka=KA", "WT:0 SEX:1", "WT SEX")
 K_WORDS = (
     b"11 434c564b41434c56636c434c76566b614b4157545345585754534558 "

@@ -7,17 +7,18 @@ use mathlib.Core.Bool.{Bool, true, false, false≢true}
 use mathlib.Core.List.{List, [], _∷_, _++_}
 use mathlib.Core.Option.{Option, some, none}
 use lib.Dec.{ltb}
-use lib.ListN.{length}
+use lib.ListN.{length, getD}
 use denote.Enum.Declared.{tagOf}
 use types.Run.{OneOf, miss}
 use Rattle.text.specs.Bytes.{bytes}
 use Rattle.tokens.specs.Spelling.{spellAll}
 use Rattle.labels.specs.declared.Family.{Family}
 use Rattle.labels.specs.declared.Family.the-variants.{VariabilityEffect, VariabilityLevel}
+use Rattle.labels.specs.Label.{keywords}
 use Rattle.reading.specs.Answer.{Answer, accepted, refused}
 use Rattle.reading.specs.Parts.{Parts, partsOf}
 use Rattle.reading.specs.Statement.{Feature, feature, Allometry, Iiv, Iov, Covariance}
-use Rattle.canonical.specs.Canonical.{statementShapes, takenShapes}
+use Rattle.canonical.specs.Canonical.{modesShapes, statementShapes, takenShapes}
 use Rattle.forms.specs.declared.Name.{Name}
 use Rattle.forms.specs.declared.SomeName.{SomeName}
 use Rattle.forms.specs.declared.Modes.{Modes}
@@ -28,7 +29,7 @@ use Rattle.forms.specs.declared.Statement.the-variants as statement
 use Rattle.forms.specs.Items.{nameIn}
 use Rattle.forms.specs.Forms.{modesIn, operandIn, someNameIn, featureIn, statementIn}
 use Rattle.forms.proofs.Feature.{the-type}
-use Rattle.parts.specs.Apart.{apart}
+use Rattle.parts.specs.Apart.{one, featureApart, apart}
 use Rattle.parts.specs.Meaning.{partsIn}
 use Rattle.parts.proofs.Meaning.{taken}
 use Rattle.writing.specs.Written.{Written}
@@ -39,6 +40,7 @@ use Rattle.resolving.specs.Symbols.{Meaning}
 use Rattle.resolving.specs.Brought.{Brought, dropped, stays, whole, listed, dropIf, bringFeature}
 use Rattle.resolving.specs.Handed.{handedContext}
 use Rattle.operands.specs.Entries.{meaningIn, parametersIn}
+use Rattle.statement_text.proofs.Bytes.{call-bytes}
 use Rattle.grounding.specs.Whole.{allWhole}
 use Rattle.grounding.specs.Listed.{variableBytes}
 use Rattle.grounding.proofs.Sizes.{form-short}
@@ -57,7 +59,7 @@ use Rattle.grounding.proofs.Features.{
 }
 use Rattle.bringing.specs.declared.Stay.{Stay}
 use Rattle.bringing.specs.declared.Stay.the-variants.{Next, Dropped, Refused}
-use Rattle.bringing.specs.Stays.{isCovariate, isSome, Short, Stood, StayAs, VariablesStood, VariablesDropped, VariablesAs}
+use Rattle.bringing.specs.Stays.{isCovariate, aloneBytes, isSome, Short, Stood, StayAs, VariablesStood, VariablesDropped, VariablesAs}
 use Rattle.bringing.proofs.Variables.{piece-small}
 
 -- Statements whose modes are made whole.
@@ -72,6 +74,12 @@ taken-apart s f = taken s (statement.Feature f) .mean
 pub whole-short : (s : List ℕ) (f : forms.Feature) → Short s f → length (wholeOf s f) ≤ 20000
 unfolding statementShapes
 whole-short s f h = form-short s (apart (statement.Feature f)) (rw (taken-apart s f) h)
+
+-- modes alone
+pub alone-bytes :
+    (s : List ℕ) (f : forms.Feature) (k : ℕ) (family : Family) (m : Modes) → featureApart f ≡ one k family m → wholeOf s f ≡ aloneBytes k family m
+unfolding apart partsIn
+alone-bytes s f k family m e = rw e (call-bytes (getD keywords k []) false (modesShapes family (whole family (modesIn m)) ∷ []))
 
 module _ {a : Answer Brought} (s : List ℕ) (f : forms.Feature) (n : ℕ) {before : List ℕ} {at : ℕ} {after : List ℕ} {r : ℕ} where
   pub whole-stood : Short s f → Whole a (featureIn s f) → Written before at (jointOf n ++ wholeOf s f) after r → Stood a n before at after r

@@ -1,28 +1,34 @@
 -- What a feature other than COVARIATE comes to.
-use Prim.Native.Nat.{ℕ, _≤_}
+use Prim.Native.Nat.{ℕ, _≤_, _<_}
 use mathlib.Core.Bool.{Bool, true, false, cond}
-use mathlib.Core.List.{List, _++_}
+use mathlib.Core.List.{List, [], _++_}
 use mathlib.Core.Option.{Option, some, none}
 use mathlib.Core.Path.{_≡_}
 use lib.Dec.{ltb}
-use lib.ListN.{length}
+use lib.ListN.{length, getD}
+use Rattle.text.specs.Bytes.{bytes}
 use Rattle.tokens.specs.Spelling.{spellAll}
 use Rattle.labels.specs.declared.Family.{Family}
+use Rattle.labels.specs.Label.{keywords}
 use Rattle.reading.specs.Answer.{Answer, accepted, refused, _>>=_}
 use Rattle.reading.specs.Statement as statement
 use Rattle.reading.specs.Statement.{feature}
-use Rattle.canonical.specs.Canonical.{statementShapes}
+use Rattle.canonical.specs.Canonical.{modesShapes, statementShapes}
 use Rattle.forms.specs.declared.Feature.{Feature}
 use Rattle.forms.specs.declared.Feature.the-variants as form
 use Rattle.forms.specs.declared.Modes.{Modes}
 use Rattle.forms.specs.declared.Operand.{Operand}
 use Rattle.forms.specs.Forms.{modesIn, featureIn}
+use Rattle.parts.specs.Apart.{one, featureApart}
 use Rattle.writing.specs.Written.{Written}
+use Rattle.statement_text.specs.Bytes.{headOf}
 use Rattle.render.specs.Text.{jointOf, pieceOf}
 use Rattle.resolving.specs.Brought.{Brought, dropped, stays, whole}
 use Rattle.resolving.specs.Handed.{handedContext}
 use Rattle.operands.specs.Entries.{parametersIn}
 use Rattle.grounding.specs.Listed.{variableBytes}
+use Rattle.bringing.specs.declared.Alone.{Alone}
+use Rattle.bringing.specs.declared.Alone.the-variants as argument
 use Rattle.bringing.specs.declared.Stay.{Stay}
 use Rattle.bringing.specs.declared.Stay.the-variants.{Next, Dropped, Refused}
 
@@ -41,6 +47,15 @@ isCovariate (form.Metabolite m) = false
 isCovariate (form.Iiv o p e) = false
 isCovariate (form.Iov o p e) = false
 isCovariate (form.Covariance o l p) = false
+
+-- a feature of modes alone has these parts; of others nothing is told
+abbrev pub AloneAs : Feature → Alone → Type 0
+AloneAs f (argument.Modes k family m) = (featureApart f ≡ one k family m) × (k < length keywords)
+AloneAs f argument.Other = Unit {0}
+
+-- its bytes, with the modes made whole
+abbrev pub aloneBytes : ℕ → Family → Modes → List ℕ
+aloneBytes k f m = headOf (getD keywords k []) false ++ (spellAll (modesShapes f (whole f (modesIn m))) ++ bytes ")")
 
 abbrev pub isSome : {A : Type 0} → Option A → Bool
 isSome none = false

@@ -27,7 +27,7 @@ ghost use Rattle.symbols.specs.Lets.{LetsFit};
 ghost use Rattle.operands.specs.Entries.{meaningIn};
 ghost use Rattle.grounding.specs.Whole.{allWhole};
 ghost use Rattle.terms.specs.Terms.{headNumber};
-ghost use Rattle.bringing.specs.Stays.{isCovariate, Short, StayAs, VariablesAs, isSome};
+ghost use Rattle.bringing.specs.Stays.{isCovariate, AloneAs, aloneBytes, Short, StayAs, VariablesAs, isSome};
 ghost use Rattle.bringing.specs.Terms.{SmallForms, CovariateAs};
 use context::Found;
 use context::Layout;
@@ -52,6 +52,45 @@ pub enum Stay {
     Refused(u8),
 }
 
+// A feature whose one argument is modes, by its keyword's place, their family and the modes; or another.
+enum Alone {
+    Modes(usize, Family, Modes),
+    Other,
+}
+
+fn alone_of(feature: Feature) -> Alone
+    ensures { λ r. ⌜ AloneAs feature r ⌝ }
+{
+    match feature {
+        Feature::Absorption(m) => Alone::Modes(0, Family::AbsorptionMode, m),
+        Feature::Elimination(m) => Alone::Modes(1, Family::EliminationMode, m),
+        Feature::Lagtime(m) => Alone::Modes(4, Family::LagtimeMode, m),
+        Feature::DirectEffect(m) => Alone::Modes(7, Family::PdMode, m),
+        Feature::EffectComp(m) => Alone::Modes(8, Family::PdMode, m),
+        Feature::Metabolite(m) => Alone::Modes(10, Family::MetaboliteMode, m),
+        _ => Alone::Other,
+    }
+}
+
+// A statement of modes alone, made whole. It is written piece by piece: no `Parts` are made and taken apart again.
+fn put_alone(
+    labels: &Labels,
+    keys: &Keywords,
+    keyword: usize,
+    family: Family,
+    modes: Modes,
+    out: &mut [u8],
+    at: usize,
+) -> usize
+    requires { ⌜ (now labels ≡ labelTable) × (now keys ≡ keywordTable) × (keyword < length keywords) × Room at (aloneBytes keyword family modes) ⌝ }
+    ensures { λ r. ⌜ Written (now (out .entry)) at (aloneBytes keyword family modes) (now (out .exit)) r ⌝ }
+{
+    let inside = statement_text::put_head(keys, keyword, false, out, at);
+    let whole = grounding::whole_modes(family, modes);
+    let last = part_text::put_modes(labels, family, whole, out, inside);
+    writing::put(out, last, b')')
+}
+
 // A statement with its modes made whole, behind the `;` where others stand before it.
 fn put_whole(
     text: &[u8],
@@ -71,8 +110,15 @@ fn put_whole(
         (now (out .exit)) r ⌝ }
 {
     let next = render::put_joint(before, out, at);
-    let parts = grounding::whole_parts(parts::parts_of(Statement::Feature(feature)));
-    statement_text::put_parts(text, classes, labels, keys, parts, out, next)
+    match alone_of(feature) {
+        Alone::Modes(keyword, family, modes) => {
+            put_alone(labels, keys, keyword, family, modes, out, next)
+        }
+        Alone::Other => {
+            let parts = grounding::whole_parts(parts::parts_of(Statement::Feature(feature)));
+            statement_text::put_parts(text, classes, labels, keys, parts, out, next)
+        }
+    }
 }
 
 // Whether a name is a covariate of the model.
@@ -182,16 +228,15 @@ pub fn ground_feature(
 {
     match feature {
         Feature::Allometry { covariate, .. } => {
-            if is_covariate(text, block, lists, layout, covariate) {
-                return Stay::Next(put_whole(text, classes, labels, keys, feature, before, out, at));
+            if !is_covariate(text, block, lists, layout, covariate) {
+                return Stay::Refused(operands::UNKNOWN_NAME);
             }
-            Stay::Refused(operands::UNKNOWN_NAME)
         }
         Feature::Iiv {
             optional,
             parameters,
             effects,
-        } => stay_variables(
+        } => return stay_variables(
             text,
             classes,
             labels,
@@ -217,7 +262,7 @@ pub fn ground_feature(
             optional,
             parameters,
             effects,
-        } => stay_variables(
+        } => return stay_variables(
             text,
             classes,
             labels,
@@ -243,7 +288,7 @@ pub fn ground_feature(
             optional,
             level,
             parameters,
-        } => stay_variables(
+        } => return stay_variables(
             text,
             classes,
             labels,
@@ -265,8 +310,10 @@ pub fn ground_feature(
             out,
             at,
         ),
-        _ => Stay::Next(put_whole(text, classes, labels, keys, feature, before, out, at)),
+        _ => {}
     }
+    // Called at one place, so that the compiler makes it part of this function.
+    Stay::Next(put_whole(text, classes, labels, keys, feature, before, out, at))
 }
 
 fn is_named(operand: Operand) -> bool

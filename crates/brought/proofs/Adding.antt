@@ -1,7 +1,7 @@
 -- What the statements so far bring, and one more.
 -- Assumes nothing.
-use Prim.Native.Nat.{ℕ, zero, suc, _+_, _*_, _≤_, _<_}
-use native.Mathlib.Nat.{add-zero, zero-add}
+use Prim.Native.Nat.{ℕ, suc, _+_, _*_, _≤_, _<_}
+use native.Mathlib.Nat.{add-zero}
 use native.Mathlib.Numerals.{add-one}
 use native.Mathlib.Omega.{arith}
 use mathlib.Core.Path.{_≡_, refl, _∙_, ap, ap₂, sym, subst}
@@ -12,7 +12,6 @@ use Rattle.reading.specs.Answer.{Answer, accepted, refused, _>>=_}
 use Rattle.reading.specs.Statement.{Statement}
 use Rattle.writing.specs.Written.{Written}
 use Rattle.writing.proofs.Writing.{nothing-written, written-on}
-use Rattle.writing.proofs.Going.{Going, going, told, further, no-more}
 use Rattle.render.specs.Text.{pieceOf}
 use Rattle.render.proofs.Pieces.{restOf}
 use Rattle.resolving.specs.Lists.{gather}
@@ -22,9 +21,15 @@ use Rattle.resolving_laws.specs.Flat.{Term, term, termsFrom}
 use Rattle.merging.specs.Packing.{termOf}
 use Rattle.space.specs.declared.Form.{Form}
 use Rattle.brought.specs.declared.Tally.{Tally}
-use Rattle.brought.specs.declared.Put.{Put}
 use Rattle.brought.specs.Tallies.{noteOf, notesFrom, Adds, Added}
-use Rattle.brought.specs.Printed.{PutOne}
+
+-- an answer accepts one value
+pub accepted-both : {B : Type 0} {x y : B} → accepted x ≡ accepted y → x ≡ y
+accepted-both {B} {x} e = ap (λ (a : Answer B). orElse a) e
+  where
+    orElse : Answer B → B
+    orElse (accepted z) = z
+    orElse (refused k p) = x
 
 -- One more at the end of a list.
 
@@ -217,13 +222,6 @@ module _ {A : Type 0} {f : A → Answer Brought} {mean : Form → A} {forms : Li
           noted = omega (arith, g .noted, a .dropped .next, note-one i b);
         }
 
-    pub one-taken : {b : Brought} {u : Tally} {ts' ds' : List ℕ}
-        → f (mean (getD forms i d)) ≡ accepted b
-        → Adds b i t ts ds u ts' ds'
-        → Taken f mean forms count (i + 1) ts₀ ds₀ u ts' ds'
-    one-taken {b} {u} {ts'} {ds'} e a =
-        subst (λ (k : ℕ). Taken f mean forms count k ts₀ ds₀ u ts' ds') (sym (add-one i)) (taken-next e a)
-
     -- what one more prints
     pub one-texted : {b : Brought} {u : Tally} {ts' ds' out₀ out out' : List ℕ}
         → Written out₀ 0 (restOf 0 (gather staying (g .what))) out (t .ground)
@@ -259,21 +257,12 @@ module _ {A : Type 0} {f : A → Answer Brought} {mean : Form → A} {forms : Li
       ∙ ap (λ (l : List Form). after (g .what) (eachFrom f i (map mean l))) (slice-empty count forms)
       ∙ after-all f (g .what) i
 
--- The same statements taken again, to be printed: those that are left bring something.
-pub record Printing {A : Type 0} (f : A → Answer Brought) (mean : Form → A) (forms : List Form) (count i : ℕ) (bs : List Brought) (before now : List ℕ)
-    (n at : ℕ) : Type 0 where
-  pub left : List Brought
-  pub each : eachFrom f i (map mean (slice i count forms)) ≡ accepted left
-  pub going : Going before 0 (restOf 0 (gather staying bs)) now at (restOf n (gather staying left))
-  pub most : i ≤ count
-  pub few : n ≤ i
-
-accepted-both : {B : Type 0} {x y : List B} → accepted x ≡ accepted y → x ≡ y
-accepted-both {B} {x} e = ap (λ (a : Answer (List B)). orElse a) e
-  where
-    orElse : Answer (List B) → List B
-    orElse (accepted z) = z
-    orElse (refused k p) = x
+module _ {A : Type 0} {f : A → Answer Brought} {mean : Form → A} {forms : List Form} {count i : ℕ} {ts₀ ds₀ : List ℕ} {t : Tally}
+    {ts ds out₀ out : List ℕ} (g : Texted f mean forms count i ts₀ ds₀ t ts ds out₀ out) where
+  pub all-texted : count ≤ i → (bs : List Brought) → eachFrom f 0 (map mean (slice 0 count forms)) ≡ accepted bs
+      → Written out₀ 0 (restOf 0 (gather staying bs)) out (t .ground)
+  all-texted h bs e =
+      subst (λ (x : List Brought). Written out₀ 0 (restOf 0 (gather staying x)) out (t .ground)) (accepted-both (sym (all-taken (g .taken) h) ∙ e)) (g .text)
 
 -- what the first brings, and the others
 pub record First {A B : Type 0} (f : A → Answer B) (i : ℕ) (x : A) (xs : List A) (bs : List B) : Type 0 where
@@ -292,46 +281,3 @@ first-of {A} {B} f i x xs bs e = by-first (f x) refl (eachFrom f (suc i) xs) ref
     by-first (accepted b) p (accepted cs) q h = record { one = b; others = cs; brought = p; each = q; are = sym (accepted-both h) }
     by-first (accepted b) p (refused k o) q h = let z : _≡_ {A = ℕ} 0 1 = cc in absurd (omega arith)
     by-first (refused k o) p r q h = let z : _≡_ {A = ℕ} 0 1 = cc in absurd (omega arith)
-
-module _ {A : Type 0} (f : A → Answer Brought) (mean : Form → A) (forms : List Form) (count : ℕ) where
-  pub none-printed : (bs : List Brought) (before : List ℕ) → eachFrom f 0 (map mean (slice 0 count forms)) ≡ accepted bs
-      → Printing f mean forms count 0 bs before before 0 0
-  none-printed bs before e = record { left = bs; each = e; going = going before 0 (restOf 0 (gather staying bs)); most = omega arith; few = omega arith }
-
-module _ {A : Type 0} {f : A → Answer Brought} {mean : Form → A} {forms : List Form} {count i : ℕ} {bs : List Brought} {before now : List ℕ} {n at : ℕ}
-    (g : Printing f mean forms count i bs before now n at) where
-  -- no more than all of it was written
-  pub written-most : at ≤ length (restOf 0 (gather staying bs))
-  written-most =
-      omega (arith, g .going .written .next, ap length (g .going .whole), length-append (g .going .done) (restOf n (gather staying (g .left))))
-
-  module _ (d : Form) (h : i < count) (w : count ≤ length forms) where
-    pub this : First f i (mean (getD forms i d)) (map mean (slice (suc i) count forms)) (g .left)
-    this =
-        first-of f i (mean (getD forms i d)) (map mean (slice (suc i) count forms)) (g .left)
-        (sym (ap (λ (l : List Form). eachFrom f i (map mean l)) (slice-cons i count forms d h w)) ∙ g .each)
-
-    pub one-printed : {now' : List ℕ} {r : Put}
-        → PutOne (this .one) n now at now' r
-        → Printing f mean forms count (i + 1) bs before now' (r .stays) (r .at)
-    one-printed {now'} {r} p =
-        let x = this in
-        let e : restOf n (gather staying (g .left)) ≡ restOf n (staying (x .one)) ++ restOf (r .stays) (gather staying (x .others)) =
-        ap (λ (l : List Brought). restOf n (gather staying l)) (x .are)
-        ∙ rest-append n (staying (x .one)) (gather staying (x .others))
-        ∙ ap (λ (k : ℕ). restOf n (staying (x .one)) ++ restOf k (gather staying (x .others))) (sym (p .stays)) in
-        subst (λ (k : ℕ). Printing f mean forms count k bs before now' (r .stays) (r .at)) (sym (add-one i))
-        (record {
-          left = x .others;
-          each = x .each;
-          going = further (told e (g .going)) (p .written);
-          most = omega arith;
-          few = omega (arith, g .few, p .stays, stay-one (x .one));
-        })
-
-  pub all-printed : count ≤ i → Written before 0 (restOf 0 (gather staying bs)) now at
-  all-printed h =
-      let e : i ≡ count = omega (arith, g .most) in
-      let z : eachFrom f i (map mean (slice i count forms)) ≡ accepted [] =
-      ap (λ (k : ℕ). eachFrom f i (map mean (slice k count forms))) e ∙ ap (λ (l : List Form). eachFrom f i (map mean l)) (slice-empty count forms) in
-      no-more (told (ap (λ (l : List Brought). restOf n (gather staying l)) (accepted-both (sym (g .each) ∙ z))) (g .going))

@@ -1,4 +1,3 @@
 pub mod Adding
 pub mod Stepping
 pub mod Fitting
-pub mod Putting

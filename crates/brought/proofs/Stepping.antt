@@ -4,22 +4,22 @@ use Prim.Native.Nat.{ℕ, _+_, _≤_}
 use native.Mathlib.Nat.{add-zero}
 use native.Mathlib.Omega.{arith}
 use mathlib.Core.Path.{_≡_, refl, _∙_, ap, sym, subst}
-use mathlib.Core.List.{List, [], _∷_, _++_, map, append-nil}
-use lib.ListN.{length, length-append}
-use Rattle.reading.specs.Answer.{Answer, accepted, refused}
+use mathlib.Core.List.{List, [], _∷_, map, append-nil}
+use lib.ListN.{length}
+use Rattle.reading.specs.Answer.{Answer, accepted}
 use Rattle.reading.specs.Statement.{Statement, feature}
 use Rattle.writing.specs.Written.{Written}
 use Rattle.writing.proofs.Writing.{nothing-written}
 use Rattle.render.specs.Text.{pieceOf}
 use Rattle.resolving.specs.Brought.{Brought, defining, dropped, stays, brings}
 use Rattle.resolving_laws.specs.Flat.{term}
-use Rattle.merging.specs.Packing.{termOf}
 use Rattle.resolving.specs.Ground.{staying}
 use Rattle.render.proofs.Pieces.{restOf}
 use Rattle.bringing.specs.Stays.{Stood}
 use Rattle.bringing.specs.Terms.{Termed}
 use Rattle.brought.specs.declared.Tally.{Tally}
-use Rattle.brought.specs.Tallies.{Noted, Adds, Brings}
+use Rattle.brought.specs.Tallies.{Noted, Brings}
+use Rattle.brought.proofs.Adding.{accepted-both}
 
 -- nothing is written where nothing is changed
 unchanged : {ts ts' : List ℕ} {m n : ℕ} → ts' ≡ ts → n ≡ m → Written ts m [] ts' n
@@ -107,20 +107,13 @@ module _ {a : Answer Brought} (i : ℕ) (t : Tally) where
 
 -- The ground text of those that stay: what one statement adds to it.
 
-accepted-one : {x y : Brought} → accepted x ≡ accepted y → x ≡ y
-accepted-one {x} e = ap (λ (a : Answer Brought). orElse a) e
-  where
-    orElse : Answer Brought → Brought
-    orElse (accepted z) = z
-    orElse (refused k p) = x
-
 module _ {a : Answer Brought} (n : ℕ) {at : ℕ} {before after : List ℕ} {r : ℕ} where
   pub prints-known : {x : Brought}
       → a ≡ accepted x
       → Written before at (restOf n (staying x)) after r
       → (b : Brought) → a ≡ accepted b → Written before at (restOf n (staying b)) after r
   prints-known e w b h =
-      subst (λ (y : Brought). Written before at (restOf n (staying y)) after r) (accepted-one (sym e ∙ h)) w
+      subst (λ (y : Brought). Written before at (restOf n (staying y)) after r) (accepted-both (sym e ∙ h)) w
 
   pub prints-stood : Stood a n before at after r → (b : Brought) → a ≡ accepted b → Written before at (restOf n (staying b)) after r
   prints-stood w =

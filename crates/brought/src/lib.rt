@@ -1,9 +1,8 @@
 // What all statements of a text bring, taken in their order.
 ghost use mathlib.Core.Path.{_≡_};
 ghost use mathlib.Core.Bool.{false};
-ghost use mathlib.Core.List.{List, []};
-ghost use Prim.Native.Nat.{ℕ, _+_, _*_, _≤_, _<_};
-ghost use lib.ListN.{length};
+ghost use mathlib.Core.List.{List};
+ghost use Prim.Native.Nat.{ℕ, _≤_, _<_};
 ghost use Rattle.tokens.specs.Class.{classTable};
 ghost use Rattle.labels.specs.Table.{labelTable, keywordTable};
 ghost use Rattle.reading.specs.Statement.{Covariate};
@@ -20,7 +19,7 @@ ghost use Rattle.space.specs.Fit.{Fit, FitAll};
 ghost use Rattle.bringing.specs.Stays.{isCovariate, Short};
 ghost use Rattle.bringing.specs.Terms.{SmallForms};
 ghost use Rattle.brought.specs.Tallies.{Noted, BringAs, PrintsAs, NoneStays, AllAs};
-ghost use Rattle.brought.specs.Printed.{PutAs, StayFew, StaysPut};
+ghost use Rattle.brought.specs.Printed.{AllPrinted};
 use bringing::Stay;
 use context::Layout;
 use forms::CovariateOp;
@@ -255,7 +254,8 @@ pub fn bring_one(
     }
 }
 
-// What all statements bring: the terms, and the indexes of those that are dropped.
+// What all statements bring: the terms, the indexes of those that are dropped, and the ground statements of those that stay, written where `out` has
+// room.
 pub fn bring_all(
     text: &[u8],
     classes: &Classes,
@@ -278,6 +278,10 @@ pub fn bring_all(
         (meaningIn (now (text .entry)) (now (lets .entry)) n (handedContext (now (block .entry)) (now (lists .entry)))))
         0 (statementsIn (now (text .entry)) space))
         (now (terms .entry)) (now (dropped .entry)) (now (terms .exit)) (now (dropped .exit)) r ⌝ }
+    ensures { λ r. ⌜ AllPrinted (eachFrom (bring·spec (handedContext (now (block .entry)) (now (lists .entry)))
+        (meaningIn (now (text .entry)) (now (lets .entry)) n (handedContext (now (block .entry)) (now (lists .entry)))))
+        0 (statementsIn (now (text .entry)) space))
+        (now (out .entry)) (now (out .exit)) r ⌝ }
 {
     let forms = space.forms;
     let count = space.count;
@@ -318,153 +322,4 @@ pub fn bring_all(
         }
     }
     AllBrought::Tally(tally)
-}
-
-// How many statements stay so far, and the index behind them.
-pub struct Put {
-    pub stays: usize,
-    pub at: usize,
-}
-
-// The ground statement of a feature other than COVARIATE, if it stays.
-fn put_feature(
-    text: &[u8],
-    classes: &Classes,
-    labels: &Labels,
-    keys: &Keywords,
-    block: &[u8],
-    lists: &[u32],
-    layout: Layout,
-    lets: &[u32],
-    n: usize,
-    feature: Feature,
-    before: Put,
-    out: &mut [u8],
-) -> Put
-    requires { ⌜ (now classes ≡ classTable) × (now labels ≡ labelTable) × (now keys ≡ keywordTable)
-        × Stands (now block) (now lists) layout × LetsFit (now text) (now lets) n
-        × PartsFit (now text) (apart (Statement.Feature feature)) × Short (now text) feature × (isCovariate feature ≡ false)
-        × (before .at ≤ 4294967296) × (before .stays ≤ 256) ⌝ }
-    ensures { λ r. ⌜ PutAs (bringFeature (handedContext (now (block .entry)) (now (lists .entry)))
-        (meaningIn (now (text .entry)) (now (lets .entry)) n (handedContext (now (block .entry)) (now (lists .entry))))
-        (featureIn (now (text .entry)) feature))
-        (before .stays) (now (out .entry)) (before .at) (now (out .exit)) r ⌝ }
-{
-    match bringing::ground_feature(
-        text,
-        classes,
-        labels,
-        keys,
-        block,
-        lists,
-        layout,
-        lets,
-        n,
-        feature,
-        before.stays,
-        out,
-        before.at,
-    ) {
-        Stay::Next(at) => Put {
-            stays: before.stays + 1,
-            at,
-        },
-        Stay::Dropped => before,
-        Stay::Refused(_) => before,
-    }
-}
-
-// The same of any statement: a LET and a COVARIATE leave none here.
-fn put_statement(
-    text: &[u8],
-    classes: &Classes,
-    labels: &Labels,
-    keys: &Keywords,
-    block: &[u8],
-    lists: &[u32],
-    layout: Layout,
-    lets: &[u32],
-    n: usize,
-    statement: Statement,
-    before: Put,
-    out: &mut [u8],
-) -> Put
-    requires { ⌜ (now classes ≡ classTable) × (now labels ≡ labelTable) × (now keys ≡ keywordTable)
-        × Stands (now block) (now lists) layout × LetsFit (now text) (now lets) n
-        × Fit (now text) statement × (before .at ≤ 4294967296) × (before .stays ≤ 256) ⌝ }
-    ensures { λ r. ⌜ PutAs (bring·spec (handedContext (now (block .entry)) (now (lists .entry)))
-        (meaningIn (now (text .entry)) (now (lets .entry)) n (handedContext (now (block .entry)) (now (lists .entry))))
-        (statementIn (now (text .entry)) statement))
-        (before .stays) (now (out .entry)) (before .at) (now (out .exit)) r ⌝ }
-{
-    match statement {
-        Statement::Let { .. } => before,
-        Statement::Feature(feature) => match feature {
-            Feature::Covariate { .. } => before,
-            _ => put_feature(
-                text,
-                classes,
-                labels,
-                keys,
-                block,
-                lists,
-                layout,
-                lets,
-                n,
-                feature,
-                before,
-                out,
-            ),
-        },
-    }
-}
-
-// The ground statements of all that stay, of statements that all bring something.
-pub fn put_stays(
-    text: &[u8],
-    classes: &Classes,
-    labels: &Labels,
-    keys: &Keywords,
-    block: &[u8],
-    lists: &[u32],
-    layout: Layout,
-    lets: &[u32],
-    n: usize,
-    space: Space,
-    out: &mut [u8],
-) -> usize
-    requires { ⌜ (now classes ≡ classTable) × (now labels ≡ labelTable) × (now keys ≡ keywordTable)
-        × Stands (now block) (now lists) layout × LetsFit (now text) (now lets) n
-        × Whole space × FitAll (now text) space
-        × StayFew (eachFrom (bring·spec (handedContext (now block) (now lists)) (meaningIn (now text) (now lets) n (handedContext (now block) (now lists))))
-        0 (statementsIn (now text) space)) ⌝ }
-    ensures { λ r. ⌜ StaysPut (eachFrom (bring·spec (handedContext (now (block .entry)) (now (lists .entry)))
-        (meaningIn (now (text .entry)) (now (lets .entry)) n (handedContext (now (block .entry)) (now (lists .entry)))))
-        0 (statementsIn (now (text .entry)) space))
-        (now (out .entry)) (now (out .exit)) r ⌝ }
-{
-    let forms = space.forms;
-    let count = space.count;
-    let mut done = Put { stays: 0, at: 0 };
-    let mut i = 0;
-    while i < count {
-        let form = forms[i];
-        let statement = form.statement;
-        done = put_statement(
-            text,
-            classes,
-            labels,
-            keys,
-            block,
-            lists,
-            layout,
-            lets,
-            n,
-            statement,
-            done,
-            out,
-        );
-        i += 1;
-    }
-    done.at
 }

@@ -291,7 +291,7 @@ fn heads_fit(lists: &[u32]) -> bool
 }
 
 // The lists stand one behind the other, behind the counts and the marks.
-fn read_layout(lists: &[u32]) -> Layout
+pub fn read_layout(lists: &[u32]) -> Layout
     requires { ⌜ headsFit (now lists) ≡ true ⌝ }
     ensures { λ r. ⌜ r ≡ layoutOf (now (lists .entry)) ⌝ }
 {

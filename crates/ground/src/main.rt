@@ -19,7 +19,7 @@ fn explain(
     refusal: Refusal,
 ) {
     let a = pages::put_all(page, 0, b"ground: ");
-    if refusal.number == resolve::WRONG_CONTEXT {
+    if refusal.number == taken::WRONG_CONTEXT {
         let b = pages::put_all(page, a, path);
         let c = pages::put_all(page, b, b": ");
         let d = context_messages::put_wrong(page, c, block, lists, file);

@@ -1,5 +1,5 @@
--- Groups that stand in the working buffer, one after the other: what each prints as and what is left behind it, that its indexes are of the
--- context's lists, and that there is room for all.
+-- Groups that are listed, one after the other: what each prints as and what is left behind it, that its indexes are of the context's lists,
+-- and that there is room for all.
 -- Assumes nothing.
 use Prim.Native.Nat.{ℕ, zero, suc, _+_, _/_, _%_, _≤_, _<_}
 use native.Mathlib.Omega.{arith}
@@ -8,7 +8,7 @@ use mathlib.Core.Bool.{Bool, true, false}
 use mathlib.Core.List.{List, [], _∷_, _++_, map, append-assoc}
 use borrow.Author.Tests.{ltb-true, ltb-false}
 use lib.Dec.{ltb}
-use lib.ListN.{length, getD, take, drop, length-map, drop-of-length-le, List·getD-eq-default}
+use lib.ListN.{length, getD, take, drop, length-map, length-drop, drop-of-length-le, List·getD-eq-default}
 use lib.Seq.{getD-drop}
 use Rattle.tokens.specs.Spelling.{spellAll}
 use Rattle.reading.specs.Statement.{Statement}
@@ -32,10 +32,12 @@ use Rattle.context.specs.declared.Layout.{Layout}
 use Rattle.context.proofs.Pairs.{names-length}
 use Rattle.context.proofs.Meaning.{parameters-sound, covariates-sound, parameters-are, covariates-are, sound-named}
 use Rattle.merging.specs.Packing.{effectOf, groupAs}
-use Rattle.merging.specs.Outcomes.{groupAt, formsAt}
+use Rattle.merging.specs.Outcomes.{GroupsStand, GroupsListed}
+use Rattle.merging_few.specs.Listing.{groupIn, formsFor}
+use Rattle.merging_few.proofs.Listed.{stand-listed, listed-few}
 use Rattle.grounding.specs.Groups.{groupStatement}
 use Rattle.grounding.proofs.Sizes.{whole-few}
-use Rattle.group_text.specs.Known.{GroupsKnown}
+use Rattle.group_text.specs.Known.{Entered, GroupsKnown}
 use Rattle.group_text.proofs.Sizes.{group-short, pieces-short}
 
 -- Lists, by index.
@@ -77,22 +79,22 @@ groundOf c es g = groundCovariate c g (formsIn es g)
 abbrev pub leftFrom : Context → List Effect → ℕ → ℕ → List ℕ
 leftFrom c es n j = restOf n (map (groundOf c es) (drop j (groups es)))
 
--- the statement of a group that stands in the buffer
+-- the statement of a group that is listed
 abbrev pub groupBytes : Context → List ℕ → ℕ → List ℕ
-groupBytes c work j =
+groupBytes c listed j =
     spellAll
     (statementShapes
-    (groupStatement c (groupAt work j / 2048 % 64) (groupAt work j / 32 % 64) (places (formsAt work j)) (groupAt work j / 2 % 2)
-    (groupAt work j % 2)))
+    (groupStatement c (groupIn listed j / 2048 % 64) (groupIn listed j / 32 % 64) (places (formsFor listed j)) (groupIn listed j / 2 % 2)
+    (groupIn listed j % 2)))
 
-module _ (c : Context) (work : List ℕ) (count k : ℕ) (known : GroupsKnown c work count k) where
+module _ (c : Context) (work listed : List ℕ) (count k : ℕ) (known : GroupsKnown c work listed count k) where
   abbrev effects : List Effect
   effects = map effectOf (take count work)
 
   pub group-next :
       (n j : ℕ)
       → j < k
-      → leftFrom c effects (n + j) j ≡ jointOf (n + j) ++ (groupBytes c work j ++ leftFrom c effects (n + (j + 1)) (j + 1))
+      → leftFrom c effects (n + j) j ≡ jointOf (n + j) ++ (groupBytes c listed j ++ leftFrom c effects (n + (j + 1)) (j + 1))
   group-next n j h =
       let s = known .stand .each j h in
       let next : suc (n + j) ≡ n + (j + 1) = omega arith in
@@ -100,11 +102,11 @@ module _ (c : Context) (work : List ℕ) (count k : ℕ) (known : GroupsKnown c 
       ap (λ (l : List Group). restOf (n + j) (map (groundOf c effects) l)) (s .group)
       ∙ ap
       (λ (fs : List ℕ).
-      (jointOf (n + j) ++ spellAll (statementShapes (groundCovariate c (groupAs (groupAt work j)) fs)))
+      (jointOf (n + j) ++ spellAll (statementShapes (groundCovariate c (groupAs (groupIn listed j)) fs)))
       ++ leftFrom c effects (suc (n + j)) (suc j))
       (sym (s .forms))
-      ∙ append-assoc (jointOf (n + j)) (groupBytes c work j) (leftFrom c effects (suc (n + j)) (suc j))
-      ∙ ap₂ (λ (m i : ℕ). jointOf (n + j) ++ (groupBytes c work j ++ leftFrom c effects m i)) next after
+      ∙ append-assoc (jointOf (n + j)) (groupBytes c listed j) (leftFrom c effects (suc (n + j)) (suc j))
+      ∙ ap₂ (λ (m i : ℕ). jointOf (n + j) ++ (groupBytes c listed j ++ leftFrom c effects m i)) next after
 
   pub none-next : (n j : ℕ) → k ≤ j → leftFrom c effects n j ≡ []
   none-next n j h =
@@ -118,7 +120,7 @@ module _ (c : Context) (work : List ℕ) (count k : ℕ) (known : GroupsKnown c 
   pub group-entered :
       (j : ℕ)
       → j < k
-      → (groupAt work j / 2048 % 64 < length (c .parameters)) × (groupAt work j / 32 % 64 < length (covariates c))
+      → (groupIn listed j / 2048 % 64 < length (c .parameters)) × (groupIn listed j / 32 % 64 < length (covariates c))
   group-entered j h =
       all-first
       (subst (All (λ g. (g .parameter < length (c .parameters)) × (g .covariate < length (covariates c)))) (known .stand .each j h .group)
@@ -129,12 +131,12 @@ module _ (c : Context) (work : List ℕ) (count k : ℕ) (known : GroupsKnown c 
       each-all (groupAs 0) (groups effects)
       (λ j h.
       let s = known .stand .each j (omega (arith, h, known .stand .count)) in
-      let e : getD (groups effects) j (groupAs 0) ≡ groupAs (groupAt work j) =
+      let e : getD (groups effects) j (groupAs 0) ≡ groupAs (groupIn listed j) =
       ap (λ (i : ℕ). getD (groups effects) i (groupAs 0)) (omega arith)
       ∙ sym (getD-drop j (groups effects) 0 (groupAs 0))
       ∙ ap (λ (l : List Group). getD l 0 (groupAs 0)) (s .group) in
       subst (λ (g : Group). length (formsIn effects g) ≤ 8) (sym e)
-      (omega (arith, places-few (formsAt work j), ap length (s .forms))))
+      (omega (arith, places-few (formsFor listed j), ap length (s .forms))))
 
   module _
       (own : (i : ℕ) → length (getD (c .parameters) i []) ≤ 32)
@@ -152,6 +154,33 @@ module _ (c : Context) (work : List ℕ) (count k : ℕ) (known : GroupsKnown c 
           known .stand .few,
           length-map (groups effects) (groundOf c effects),
         )
+
+-- groups that stand in the buffer of `merging`, from 6,144 on
+pub buffer-known :
+    {c : Context} {work : List ℕ} {count groups : ℕ}
+    → GroupsStand (map effectOf (take count work)) work groups
+    → All (Entered c) (map effectOf (take count work))
+    → 6656 ≤ length work
+    → GroupsKnown c work (drop 6144 work) count groups
+buffer-known {work = work} s e h = record {
+  stand = stand-listed s;
+  entered = e;
+  room = omega (arith, s .few, h, length-drop 6144 work);
+}
+
+-- groups of few effects, as `merging_few` lists them
+pub few-known :
+    {c : Context} {work listed : List ℕ} {count groups : ℕ}
+    → GroupsListed (map effectOf (take count work)) listed groups
+    → All (Entered c) (map effectOf (take count work))
+    → count ≤ 64
+    → 128 ≤ length listed
+    → GroupsKnown c work listed count groups
+few-known {work = work} {count = count} s e h g = record {
+  stand = s;
+  entered = e;
+  room = omega (arith, listed-few work count s, h, g);
+}
 
 -- In a context that was checked.
 module _ (b l : List ℕ) (y : Layout) (s : Stands b l y) where

@@ -17,7 +17,8 @@ use labels::Keywords;
 use labels::Labels;
 use tokens::Classes;
 
-// The ground COVARIATEs of the groups of so many effects, where other statements stay before them.
+// The ground COVARIATEs of the groups of so many effects, where other statements stay before them. A group is listed by two numbers: its
+// own, and its forms.
 pub fn put_groups(
     block: &[u8],
     classes: &Classes,
@@ -26,6 +27,7 @@ pub fn put_groups(
     keys: &Keywords,
     layout: Layout,
     work: &[u32],
+    listed: &[u32],
     count: usize,
     groups: usize,
     before: usize,
@@ -33,7 +35,7 @@ pub fn put_groups(
     at: usize,
 ) -> usize
     requires { ⌜ (now classes ≡ classTable) × (now labels ≡ labelTable) × (now keys ≡ keywordTable) × Stands (now block) (now lists) layout
-        × GroupsKnown (handedContext (now block) (now lists)) (now work) count groups × (before ≤ 256) × (at ≤ 4294967296) ⌝ }
+        × GroupsKnown (handedContext (now block) (now lists)) (now work) (now listed) count groups × (before ≤ 256) × (at ≤ 4294967296) ⌝ }
     ensures { λ r. ⌜ Written (now (out .entry)) at
         (restOf before (groundEffects (handedContext (now (block .entry)) (now (lists .entry))) (map effectOf (take count (now (work .entry))))))
         (now (out .exit)) r ⌝ }
@@ -41,8 +43,8 @@ pub fn put_groups(
     let mut j = 0;
     let mut next = at;
     while j < groups {
-        let group = work[6144 + 2 * j];
-        let packed = work[6145 + 2 * j];
+        let group = listed[2 * j];
+        let packed = listed[2 * j + 1];
         next = render::put_joint(before + j, out, next);
         next = grounding::put_group(
             block,

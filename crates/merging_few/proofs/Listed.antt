@@ -7,10 +7,12 @@ use mathlib.Core.Bool.{Bool, true, false, cond}
 use mathlib.Core.List.{List, [], _∷_, _++_, map}
 use borrow.Author.Tests.{le-leb}
 use lib.Dec.{eqb}
-use lib.ListN.{length, take, drop, getD, replicate, length-append, length-replicate, getD-replicate, List·getD-append}
+use lib.ListN.{length, take, drop, getD, replicate, length-map, length-take, length-append, length-replicate, getD-replicate, List·getD-append}
 use lib.Seq.{getD-drop, take-append-le, take-at, drop-at, getD-append-add, length-take-le}
 use Rattle.packs.specs.Packs.{Snug}
 use Rattle.resolving.specs.Effects.{Effect}
+use Rattle.resolving.specs.Ground.{groupOf, sameGroup}
+use Rattle.resolving_laws.proofs.MergedLaws.{firsts-shorter}
 use Rattle.merging.specs.Packing.{effectOf, pairOf}
 use Rattle.merging.specs.Runs.{groupsIn, formsOf}
 use Rattle.merging.specs.Tables.{entry, updated, tally, Tallied}
@@ -40,6 +42,19 @@ stand-listed {es} {work} {k} s = record { count = s .count; few = s .few; each =
           forms = rw (group-there work j, forms-there work j) (g .forms);
           snug = subst Snug (sym (forms-there work j)) (g .snug);
         }
+
+-- there are no more groups than effects
+pub listed-few : (work : List ℕ) (m : ℕ) {listed : List ℕ} {k : ℕ} → GroupsListed (map effectOf (take m work)) listed k → k ≤ m
+listed-few work m s =
+    let es = map effectOf (take m work) in
+    omega (
+      arith,
+      s .count,
+      firsts-shorter sameGroup (map groupOf es),
+      length-map es groupOf,
+      length-map (take m work) effectOf,
+      length-take m work,
+    )
 
 -- A run of groups behind effects and a table of zeros, as `merging` has them.
 module _ (work listed : List ℕ) (m : ℕ) (low : m ≤ 64) (room : m ≤ length work) where

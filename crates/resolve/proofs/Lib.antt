@@ -1,4 +1,4 @@
 pub mod Bench
 pub mod Calling
 pub mod Packed
-pub mod Short
+pub mod There

@@ -25,15 +25,15 @@ refused-packed {a} {g} {n} {w} k p h =
     subst (λ (y : Answer definition.Resolved). Packed y g n w g n w) (sym h) (record { text = refl; packed = tt; remarks = refl; left = refl })
 
 -- what is left of a buffer that is long enough
-pub cleared : (w : List ℕ) → 6656 ≤ length w → replicate (length w) 0 ≡ workAfter w
-cleared w h = sym (ap (λ (t : Bool). cond t w (replicate (length w) 0)) (le-ltb (length w) 6656 h))
+pub cleared : (w : List ℕ) → 2048 ≤ length w → replicate (length w) 0 ≡ workAfter w
+cleared w h = sym (ap (λ (t : Bool). cond t w (replicate (length w) 0)) (le-ltb (length w) 2048 h))
 
 module _ {a b : Answer definition.Resolved} {g g' : List ℕ} {e : ℕ} {n n' : List (List ℕ)} {w' : List ℕ} {r : Resolved}
     (h : a ≡ roomFor (rooms g e n) b) (x : Answers b g e n g' n' w' r) where
   pub answers-told : resolvedAs r ≡ lengthsOf a
   answers-told = x .told ∙ sym (ap lengthsOf h)
 
-  pub answers-packed : {w : List ℕ} → 6656 ≤ length w → length w' ≡ length w → Packed a g n w g' n' w'
+  pub answers-packed : {w : List ℕ} → 2048 ≤ length w → length w' ≡ length w → Packed a g n w g' n' w'
   answers-packed {w} k same =
       subst (λ (y : Answer definition.Resolved). Packed y g n w g' n' w') (sym h)
       (record {

@@ -1,169 +1,103 @@
 // Resolve: a text and a context give the ground text, the covariate effects and the notes.
 ghost use mathlib.Core.Path.{_≡_};
-ghost use mathlib.Core.Bool.{cond};
 ghost use mathlib.Core.List.{map};
 ghost use Prim.Native.Nat.{_≤_};
 ghost use lib.ListN.{length};
 ghost use Rattle.tokens.specs.Class.{classTable};
 ghost use Rattle.labels.specs.Table.{labelTable, keywordTable};
-ghost use Rattle.reading.specs.Answer.{refused};
-ghost use Rattle.resolving.specs.Brought.{bring, eachFrom};
-ghost use Rattle.resolving.specs.Resolve as definition;
-ghost use Rattle.resolving.specs.Handed.{isHanded, handedContext, resolveHanded};
+ghost use Rattle.resolving.specs.Handed.{resolveHanded};
 ghost use Rattle.resolving.specs.Call.{resolveCall, lengthsOf, outputOf, workAfter, effectNumbers, noteNumbers};
-ghost use Rattle.context.specs.Lists.{Stands};
-ghost use Rattle.symbols.specs.Lets.{LetsFit};
-ghost use Rattle.operands.specs.Entries.{meaningIn};
-ghost use Rattle.space.specs.Space.{Whole, statementsIn};
-ghost use Rattle.space.specs.Fit.{FitAll};
 ghost use Rattle.resolving.specs.Resolve.{groundText};
 ghost use Rattle.settling.specs.Answers.{Answers, Packed, resolvedAs, effectsIn, rooms, lent};
 ghost use Rattle.reading_laws.specs.Admitted.{Admitted};
-ghost use Rattle.settling.specs.Stages.{settled};
 ghost use Rattle.settling.specs.Short.{FewAnswers};
-use brought::AllBrought;
-use brought::Tally;
-use collecting::Collected;
-use context::Checked;
-use context::Layout;
-use few::FewBrought;
 use labels::Keywords;
 use labels::Labels;
 use settling::Few;
 use settling::Resolved;
-use space::Ending;
-use space::Space;
 use statements::Admission;
+use taken::Taken;
 use tokens::Classes;
 
-// How many elements the working buffer has to have.
-pub const WORKING: usize = 6656;
+// How many elements the working buffer has to have: as many as there are effects at most.
+pub const WORKING: usize = 2048;
 
-// A text with at most so many bytes is short: it is tried first in the way for few statements.
+// A text with at most so many bytes is short: it is tried first with small buffers, which take less time to make.
 pub const SHORT: usize = 1024;
 
-// The faults of resolving that are found here, by their numbers.
-pub const WRONG_CONTEXT: u8 = 12;
+// Buffers of full size, with nothing in them. Their contracts name their lengths alone: where they are used, goals would show each of their numbers.
+fn no_lets() -> [u32; 1024]
+    ensures { λ r. ⌜ length r ≡ 1024 ⌝ }
+{
+    [0; 1024]
+}
 
-pub const SECOND_LET: u8 = 13;
-
-// The bench of merging, with nothing on it. Its contract names its length alone: where it is used, goals would show each of its numbers.
 fn no_bench() -> [u32; 6656]
     ensures { λ r. ⌜ length r ≡ 6656 ⌝ }
 {
     [0; 6656]
 }
 
-// The answer of statements whose LETs were collected.
-fn resolve_collected(
-    text: &[u8],
-    classes: &Classes,
-    labels: &Labels,
-    keys: &Keywords,
-    block: &[u8],
-    lists: &[u32],
-    layout: Layout,
-    lets: &[u32],
-    n: usize,
-    space: Space,
-    ground: &mut [u8],
-    room: usize,
-    notes: &mut [[u8; 2]],
-    work: &mut [u32],
-) -> Resolved
-    requires { ⌜ (now classes ≡ classTable) × (now labels ≡ labelTable) × (now keys ≡ keywordTable) × Stands (now block) (now lists) layout
-        × LetsFit (now text) (now lets) n × Whole space × FitAll (now text) space × (2048 ≤ length (now work)) ⌝ }
-    ensures { λ r. ⌜ Answers (settled (handedContext (now (block .entry)) (now (lists .entry)))
-        (eachFrom (bring (handedContext (now (block .entry)) (now (lists .entry)))
-        (meaningIn (now (text .entry)) (now (lets .entry)) n (handedContext (now (block .entry)) (now (lists .entry)))))
-        0 (statementsIn (now (text .entry)) space))) (now (ground .entry)) room (now (notes .entry))
-        (now (ground .exit)) (now (notes .exit)) (now (work .exit)) r ⌝ }
+fn no_text() -> [u8; 16384]
+    ensures { λ r. ⌜ length r ≡ 16384 ⌝ }
 {
-    // Merging's table and groups stand on a bench of its own, so that the working buffer has to hold the effects alone.
-    let mut bench = no_bench();
-    let mut dropped = [0; 256];
-    let tally = match brought::bring_all(
-        text,
-        classes,
-        labels,
-        keys,
-        block,
-        lists,
-        layout,
-        lets,
-        n,
-        space,
-        &mut bench,
-        &mut dropped,
-        &mut ground[..0],
-    ) {
-        AllBrought::Refused(r) => {
-            return Resolved::Refused(r);
-        }
-        AllBrought::Tally(tally) => tally,
-    };
-    let resolved = settling::resolve_brought(
-        text,
-        classes,
-        labels,
-        keys,
-        block,
-        lists,
-        layout,
-        lets,
-        n,
-        space,
-        tally,
-        &dropped,
-        ground,
-        room,
-        notes,
-        &mut bench,
-    );
-    let count = effect_count(resolved);
-    outputs::put_packed(work, &bench, count);
-    resolved
+    [0; 16384]
 }
 
-// The answer of the statements of a text, in a context that was checked.
-fn resolve_checked(
+// The answer of a text, if small buffers have room for it.
+fn resolve_short(
     text: &[u8],
     classes: &Classes,
     labels: &Labels,
     keys: &Keywords,
     block: &[u8],
     lists: &[u32],
-    layout: Layout,
-    space: Space,
     ground: &mut [u8],
     room: usize,
     notes: &mut [[u8; 2]],
     work: &mut [u32],
-) -> Resolved
-    requires { ⌜ (now classes ≡ classTable) × (now labels ≡ labelTable) × (now keys ≡ keywordTable) × Stands (now block) (now lists) layout
-        × Whole space × FitAll (now text) space × (length (now text) ≤ 16384) × (2048 ≤ length (now work)) ⌝ }
-    ensures { λ r. ⌜ Answers (definition.resolve (handedContext (now (block .entry)) (now (lists .entry))) (statementsIn (now (text .entry)) space))
+    limit: u32,
+) -> Few
+    requires { ⌜ (now classes ≡ classTable) × (now labels ≡ labelTable) × (now keys ≡ keywordTable)
+        × Admitted limit (now text) × (2048 ≤ length (now work)) ⌝ }
+    ensures { λ r. ⌜ FewAnswers (resolveHanded limit (now (block .entry)) (now (lists .entry)) (now (text .entry)))
         (now (ground .entry)) room (now (notes .entry))
         (now (ground .exit)) (now (notes .exit)) (now (work .exit)) r ⌝ }
 {
-    let mut lets = [0; 1024];
-    let n = match collecting::collect_lets(text, space, &mut lets) {
-        Collected::Second(index) => {
-            return settling::refuse(SECOND_LET, index);
-        }
-        Collected::Count(n) => n,
-    };
-    resolve_collected(
+    let mut lets = [0; 128];
+    let mut dropped = [0; 256];
+    let mut made = [0; 2048];
+    let tally = match taken::take_text(
         text,
         classes,
         labels,
         keys,
         block,
         lists,
-        layout,
-        &lets,
-        n,
-        space,
+        limit,
+        &mut lets,
+        work,
+        &mut dropped,
+        &mut made,
+    ) {
+        Taken::Tally(tally) => tally,
+        Taken::Refused(r) => {
+            return Few::Answer(Resolved::Refused(r));
+        }
+        Taken::Full => {
+            return Few::Other;
+        }
+    };
+    settling::settle_few(
+        block,
+        classes,
+        lists,
+        labels,
+        keys,
+        context::read_layout(lists),
+        tally,
+        &dropped,
+        &mut made,
         ground,
         room,
         notes,
@@ -171,48 +105,8 @@ fn resolve_checked(
     )
 }
 
-// The answer of the statements of a text.
-fn resolve_read(
-    text: &[u8],
-    classes: &Classes,
-    labels: &Labels,
-    keys: &Keywords,
-    block: &[u8],
-    lists: &[u32],
-    space: Space,
-    ground: &mut [u8],
-    room: usize,
-    notes: &mut [[u8; 2]],
-    work: &mut [u32],
-) -> Resolved
-    requires { ⌜ (now classes ≡ classTable) × (now labels ≡ labelTable) × (now keys ≡ keywordTable)
-        × Whole space × FitAll (now text) space × (length (now text) ≤ 16384) × (2048 ≤ length (now work)) ⌝ }
-    ensures { λ r. ⌜ Answers (cond (isHanded (now (block .entry)) (now (lists .entry)))
-        (definition.resolve (handedContext (now (block .entry)) (now (lists .entry))) (statementsIn (now (text .entry)) space)) (refused 12 0))
-        (now (ground .entry)) room (now (notes .entry))
-        (now (ground .exit)) (now (notes .exit)) (now (work .exit)) r ⌝ }
-{
-    match context::check(block, classes, lists) {
-        Checked::Wrong => settling::refuse(WRONG_CONTEXT, 0),
-        Checked::Context(layout) => resolve_checked(
-            text,
-            classes,
-            labels,
-            keys,
-            block,
-            lists,
-            layout,
-            space,
-            ground,
-            room,
-            notes,
-            work,
-        ),
-    }
-}
-
-// The answer of a text of any length. It is called rather than a part of `resolve_in`: the space of a text's statements is large, and a short text
-// does not need it.
+// The answer of any text. All that is made on the way is in buffers of full size, so that the working buffer has to hold the effects alone; none of
+// them can be too short, which the other answers would say.
 fn resolve_long(
     text: &[u8],
     classes: &Classes,
@@ -232,118 +126,52 @@ fn resolve_long(
         (now (ground .entry)) room (now (notes .entry))
         (now (ground .exit)) (now (notes .exit)) (now (work .exit)) r ⌝ }
 {
-    let space = space::read_space(text, classes, labels, keys, limit);
-    let ending = space.ending;
-    match ending {
-        Ending::Refused(r) => Resolved::Refused(r),
-        Ending::Accepted => resolve_read(
-            text,
-            classes,
-            labels,
-            keys,
-            block,
-            lists,
-            space,
-            ground,
-            room,
-            notes,
-            work,
-        ),
-    }
-}
-
-// The answer of a text of few statements, in a context that was checked.
-fn resolve_few(
-    text: &[u8],
-    classes: &Classes,
-    labels: &Labels,
-    keys: &Keywords,
-    block: &[u8],
-    lists: &[u32],
-    layout: Layout,
-    ground: &mut [u8],
-    room: usize,
-    notes: &mut [[u8; 2]],
-    work: &mut [u32],
-    limit: u32,
-) -> Few
-    requires { ⌜ (now classes ≡ classTable) × (now labels ≡ labelTable) × (now keys ≡ keywordTable) × Stands (now block) (now lists) layout
-        × Admitted limit (now text) × (6656 ≤ length (now work)) ⌝ }
-    ensures { λ r. ⌜ FewAnswers (resolveHanded limit (now (block .entry)) (now (lists .entry)) (now (text .entry)))
-        (now (ground .entry)) room (now (notes .entry))
-        (now (ground .exit)) (now (notes .exit)) (now (work .exit)) r ⌝ }
-{
+    let mut lets = no_lets();
     let mut dropped = [0; 256];
-    let mut made = [0; 2048];
-    let FewBrought::Tally(tally) = few::bring_few(
+    let mut bench = no_bench();
+    let mut made = no_text();
+    let tally = match taken::take_text(
         text,
         classes,
         labels,
         keys,
         block,
         lists,
-        layout,
         limit,
-        work,
+        &mut lets,
+        &mut bench,
         &mut dropped,
         &mut made,
-    ) else {
-        return Few::Other;
+    ) {
+        Taken::Tally(tally) => tally,
+        Taken::Refused(r) => {
+            return Resolved::Refused(r);
+        }
+        Taken::Full => {
+            return settling::refuse(settling::TOO_LARGE, 0);
+        }
     };
-    settling::settle_few(
+    match settling::settle_many(
         block,
         classes,
         lists,
         labels,
         keys,
-        layout,
+        context::read_layout(lists),
         tally,
         &dropped,
         &mut made,
         ground,
         room,
         notes,
-        work,
-    )
-}
-
-// The answer of a short text.
-fn resolve_short(
-    text: &[u8],
-    classes: &Classes,
-    labels: &Labels,
-    keys: &Keywords,
-    block: &[u8],
-    lists: &[u32],
-    ground: &mut [u8],
-    room: usize,
-    notes: &mut [[u8; 2]],
-    work: &mut [u32],
-    limit: u32,
-) -> Few
-    requires { ⌜ (now classes ≡ classTable) × (now labels ≡ labelTable) × (now keys ≡ keywordTable)
-        × Admitted limit (now text) × (6656 ≤ length (now work)) ⌝ }
-    ensures { λ r. ⌜ FewAnswers (resolveHanded limit (now (block .entry)) (now (lists .entry)) (now (text .entry)))
-        (now (ground .entry)) room (now (notes .entry))
-        (now (ground .exit)) (now (notes .exit)) (now (work .exit)) r ⌝ }
-{
-    let Checked::Context(layout) = context::check(block, classes, lists) else {
-        return Few::Other;
-    };
-    resolve_few(
-        text,
-        classes,
-        labels,
-        keys,
-        block,
-        lists,
-        layout,
-        ground,
-        room,
-        notes,
-        work,
-        limit,
-    )
+        &mut bench,
+    ) {
+        Few::Answer(resolved) => {
+            outputs::put_packed(work, &bench, effect_count(resolved));
+            resolved
+        }
+        Few::Other => settling::refuse(settling::TOO_LARGE, 0),
+    }
 }
 
 // The answer, with a working buffer that is long enough.
@@ -357,7 +185,7 @@ fn resolve_in(
     work: &mut [u32],
     limit: u32,
 ) -> Resolved
-    requires { ⌜ 6656 ≤ length (now work) ⌝ }
+    requires { ⌜ 2048 ≤ length (now work) ⌝ }
     ensures { λ r. ⌜ Answers (resolveHanded limit (now (block .entry)) (now (lists .entry)) (now (text .entry)))
         (now (ground .entry)) room (now (notes .entry))
         (now (ground .exit)) (now (notes .exit)) (now (work .exit)) r ⌝ }
@@ -399,7 +227,7 @@ fn resolve_in(
         work,
         limit,
     ) {
-        Few::Lengths(n) => Resolved::Lengths(n),
+        Few::Answer(resolved) => resolved,
         Few::Other => resolve_long(
             text,
             &classes,

@@ -13,9 +13,9 @@ use Rattle.resolving.specs.Effects.{Effect}
 use Rattle.resolving.specs.Resolve.{Note, Resolved, groundText}
 use Rattle.resolving.specs.Handed.{resolveHanded}
 
--- How many elements the working buffer has to have.
+-- How many elements the working buffer has to have: as many as there are effects at most, before merging.
 abbrev pub workingLength : ℕ
-workingLength = 6656
+workingLength = 2048
 
 -- "An effect is five numbers", and a note two.
 abbrev pub effectNumbers : Effect → List ℕ

@@ -1,17 +1,16 @@
 -- The ground space of what the statements bring: how many statements it has, its text, its notes; and each fault of merging and grounding.
 -- Assumes nothing.
-use Prim.Native.Nat.{ℕ, zero, suc, _+_, _≤_, _<_}
+use Prim.Native.Nat.{ℕ, suc, _+_, _≤_, _<_}
 use native.Mathlib.Omega.{arith}
-use mathlib.Core.Path.{_≡_, refl, _∙_, ap, ap₂, sym, subst}
+use mathlib.Core.Path.{_≡_, refl, _∙_, ap, ap₂, sym}
 use mathlib.Core.Bool.{Bool, true, false, cond}
 use mathlib.Core.List.{List, [], _∷_, _++_, map, map-append}
 use mathlib.Core.Option.{Option, some, none}
 use borrow.Author.Tests.{lt-ltb, le-ltb}
-use lib.Dec.{eqb, ltb}
+use lib.Dec.{eqb}
 use lib.ListN.{length, length-append, length-map}
 use Rattle.reading.specs.Answer.{Answer, accepted, refused}
 use Rattle.reading.specs.Statement.{Statement}
-use Rattle.canonical.specs.Canonical.{canonical}
 use Rattle.render.proofs.Pieces.{restOf, canonical-pieces}
 use Rattle.resolving.specs.Lists.{any, gather}
 use Rattle.resolving.specs.Faults.{forcedTwice, tooLarge}
@@ -21,9 +20,9 @@ use Rattle.resolving.specs.Effects.{Effect}
 use Rattle.resolving.specs.Brought.{Brought, defining, dropped, stays, brings, bring, eachFrom}
 use Rattle.resolving.specs.Merging.{effectsIn, forcedAgain, merged}
 use Rattle.resolving.specs.Ground.{groups, groupOf, formsIn, groundCovariate, groundEffects, staying, ground}
-use Rattle.resolving.specs.Resolve.{Note, Resolved, groundText, droppedFrom, additive, atMostOnce, upTo, outcome, mergeAndGround}
+use Rattle.resolving.specs.Resolve.{Resolved, groundText, droppedFrom, additive, atMostOnce, upTo, outcome, mergeAndGround}
 use Rattle.resolving.specs.Call.{noteNumbers}
-use Rattle.resolving_laws.specs.Flat.{Term, term, termsFrom}
+use Rattle.resolving_laws.specs.Flat.{term, termsFrom}
 use Rattle.resolving_laws.proofs.All.{All, all-weaker}
 use Rattle.resolving_laws.proofs.Fewness.{place-below}
 use Rattle.resolving_laws.proofs.Passed.{gives-accepted}
@@ -32,7 +31,7 @@ use Rattle.resolving_laws.proofs.Standing.{all-stand}
 use Rattle.resolving_laws.proofs.Reresolving.{merged-fit}
 use Rattle.group_text.specs.Known.{Entered}
 use Rattle.outputs.specs.Entries.{droppedAt, additiveNote}
-use Rattle.brought.specs.Tallies.{noteOf, notesFrom}
+use Rattle.brought.specs.Tallies.{notesFrom}
 use Rattle.brought.proofs.Adding.{rest-append}
 use Rattle.settling.specs.Stages.{grounded}
 

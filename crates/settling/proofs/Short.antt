@@ -1,36 +1,85 @@
--- A short text where its effects are grouped: the ground statements of what stays stand where the groups' are put behind them.
+-- Where the ground statements of what stays are written already: merged effects and their groups, and answers of what that comes to.
 -- Assumes nothing.
-use Prim.Native.Nat.{ℕ}
-use mathlib.Core.Path.{_≡_, sym, subst}
-use mathlib.Core.List.{List}
+use Prim.Native.Nat.{ℕ, _-_, _≤_}
+use native.Mathlib.Omega.{arith}
+use mathlib.Core.Path.{_≡_, _∙_, ap, sym, subst}
+use mathlib.Core.List.{List, map}
+use lib.ListN.{length, take, drop, length-drop}
+use lib.Seq.{take-all}
 use Rattle.reading.specs.Answer.{Answer}
-use Rattle.writing.specs.Written.{Written}
-use Rattle.render.proofs.Pieces.{restOf}
-use Rattle.resolving.specs.Lists.{gather}
 use Rattle.resolving.specs.Context.{Context}
-use Rattle.resolving.specs.Brought.{Brought, bring, eachFrom}
-use Rattle.resolving.specs.Ground.{staying}
+use Rattle.resolving.specs.Effects.{Effect}
 use Rattle.resolving.specs.Resolve.{Resolved}
+use Rattle.resolving_laws.proofs.All.{All}
+use Rattle.merging.specs.Packing.{effectOf}
+use Rattle.merging.specs.Outcomes.{Settles, Groups, GroupsStand, GroupsListed}
+use Rattle.merging.specs.declared.Outcome.{Outcome}
+use Rattle.merging.specs.declared.Outcome.the-variants as outcomes
+use Rattle.merging.specs.declared.Grouped.{Grouped}
+use Rattle.merging.specs.declared.Grouped.the-variants as grouped
+use Rattle.merging.proofs.Answers.{merged-plain, groups-stand}
+use Rattle.group_text.specs.Known.{Entered, GroupsKnown}
+use Rattle.group_text.proofs.Groups.{buffer-known, few-known}
 use Rattle.brought.specs.declared.Tally.{Tally}
-use Rattle.settling.specs.Stages.{Grounding}
 use Rattle.settling.specs.declared.Few.{Few}
 use Rattle.settling.specs.Short.{FewThere, FewGrounding, FewAnswers}
-use Rattle.settling.proofs.Measured.{what-is}
+use Rattle.settling.proofs.Grounds.{Unforced, merged-entered}
+use Rattle.settling.proofs.Settling.{unforced}
 
--- the same text where the effects are grouped
-unfoldable pub few-grounding : {c : Context} {t : Tally} {ds work work' made : List ℕ} {count groups : ℕ} (x : FewThere c t ds work made)
-    → Grounding (eachFrom (bring c (x .look)) 0 (x .statements)) c t ds work' count groups
-    → FewGrounding c t ds work' count groups made
-few-grounding {c} {t} {ds} {work} {work'} {made} x g =
-    record {
-      all = eachFrom (bring c (x .look)) 0 (x .statements);
-      known = g;
-      before = x .before;
-      text =
-          subst (λ (bs : List Brought). Written (x .before) 0 (restOf 0 (gather staying bs)) made (t .ground))
-          (sym (what-is g (x .there .what) (x .there .brought))) (x .text);
-      small = x .small;
-    }
+module _ {c : Context} {t : Tally} {ds work made : List ℕ} (x : FewThere c t ds work made) (low : t .terms ≤ 2048) {work' : List ℕ} {r : Outcome}
+    (s : Settles (t .terms) work work' r) (m : ℕ) (h : r ≡ outcomes.Effects m) where
+  abbrev right : Unforced (x .there .what) (map effectOf (take m work'))
+  right = unforced (x .there) low s m h
+
+  abbrev most : m ≤ t .terms
+  most = merged-plain s h .0
+
+  -- each merged effect has a parameter and a covariate of the context
+  abbrev entered : All (Entered c) (map effectOf (take m work'))
+  entered =
+      subst (All (Entered c)) (sym (right .are)) (merged-entered c (x .look) (x .statements) (x .there .what) (x .there .brought) (right .peace))
+
+  -- few effects, whose groups are listed by scans
+  unfoldable pub few-grounding :
+      {listed : List ℕ} {k : ℕ}
+      → GroupsListed (map effectOf (take m work')) listed k
+      → t .terms ≤ 32
+      → 2048 ≤ length work
+      → 128 ≤ length listed
+      → FewGrounding c t ds work' listed m k made
+  few-grounding g few room wide = record {
+    what = x .there .what;
+    tallied = x .there .tallied;
+    effects = right .are;
+    room = omega (arith, most, low, room, s .kept .size);
+    known = few-known g entered (omega (arith, most, few)) wide;
+    before = x .before;
+    text = x .text;
+  }
+
+  -- any number of them, whose groups stand behind them, in a part that goes to the buffer's end
+  unfoldable pub many-grounding :
+      {work'' : List ℕ} {g : Grouped} {k : ℕ}
+      → Groups m work' work'' g
+      → g ≡ grouped.Groups k
+      → 6656 ≤ length work
+      → FewGrounding c t ds work'' (take (length work'' - 6144) (drop 6144 work'')) m k made
+  many-grounding {work''} {k = k} q o wide =
+      let e : map effectOf (take m work'') ≡ map effectOf (take m work') = ap (λ (l : List ℕ). map effectOf l) (q .effects) in
+      let room : 6656 ≤ length work'' = omega (arith, wide, s .kept .size, q .kept .size) in
+      record {
+        what = x .there .what;
+        tallied = x .there .tallied;
+        effects = e ∙ right .are;
+        room = omega (arith, most, low, room);
+        known =
+            subst (λ (l : List ℕ). GroupsKnown c work'' l m k)
+            (sym (take-all (length work'' - 6144) (drop 6144 work'') (omega (arith, length-drop 6144 work''))))
+            (buffer-known (subst (λ (l : List Effect). GroupsStand l work'' k) (sym e) (groups-stand q o)) (subst (All (Entered c)) (sym e) entered)
+            room);
+        before = x .before;
+        text = x .text;
+      }
 
 -- an answer for another that is equal
 pub same-few :

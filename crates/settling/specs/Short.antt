@@ -1,8 +1,8 @@
--- What is known of a short text at each stage, with the ground statements of what stays already written; and what is answered of it.
-use Prim.Native.Nat.{ℕ, _≤_}
-use mathlib.Core.List.{List}
+-- What is known at each stage where the ground statements of what stays are written already; and what is answered of it.
+use Prim.Native.Nat.{ℕ, _≤_, _<_}
+use mathlib.Core.List.{List, map}
 use mathlib.Core.Path.{_≡_}
-use lib.ListN.{length}
+use lib.ListN.{length, take}
 use Rattle.reading.specs.Statement.{Statement}
 use Rattle.reading.specs.Answer.{Answer}
 use Rattle.writing.specs.Written.{Written}
@@ -11,14 +11,16 @@ use Rattle.resolving.specs.Lists.{gather}
 use Rattle.resolving.specs.Context.{Context}
 use Rattle.resolving.specs.Symbols.{Meaning}
 use Rattle.resolving.specs.Brought.{Brought, bring, eachFrom}
+use Rattle.resolving.specs.Merging.{merged}
 use Rattle.resolving.specs.Ground.{staying}
 use Rattle.resolving.specs.Resolve as definition
+use Rattle.merging.specs.Packing.{effectOf}
+use Rattle.group_text.specs.Known.{GroupsKnown}
 use Rattle.brought.specs.declared.Tally.{Tally}
 use Rattle.settling.specs.declared.Few.{Few}
 use Rattle.settling.specs.declared.Few.the-variants as few
-use Rattle.settling.specs.declared.Resolved.the-variants as resolved
 use Rattle.settling.specs.Answers.{Answers}
-use Rattle.settling.specs.Stages.{BroughtThere, Grounding}
+use Rattle.settling.specs.Stages.{Tallied, BroughtThere}
 
 -- `made` has the ground statements of what stays, and is no longer than a ground text may be
 pub record FewThere (c : Context) (t : Tally) (dropped work made : List ℕ) : Type 0 where
@@ -29,14 +31,22 @@ pub record FewThere (c : Context) (t : Tally) (dropped work made : List ℕ) : T
   pub text : Written before 0 (restOf 0 (gather staying (there .what))) made (t .ground)
   pub small : length made ≤ 16384
 
-pub record FewGrounding (c : Context) (t : Tally) (dropped work : List ℕ) (count groups : ℕ) (made : List ℕ) : Type 0 where
-  pub all : Answer (List Brought)
-  pub known : Grounding all c t dropped work count groups
+-- the merged effects stand from 0 on, and their groups are listed
+pub record FewGrounding (c : Context) (t : Tally) (dropped work listed : List ℕ) (count groups : ℕ) (made : List ℕ) : Type 0 where
+  pub what : List Brought
+  pub tallied : Tallied what t dropped
+  pub effects : map effectOf (take count work) ≡ merged what
+  pub room : count ≤ length work
+  pub known : GroupsKnown c work listed count groups
   pub before : List ℕ
-  pub text : Written before 0 (restOf 0 (gather staying (known .what))) made (t .ground)
-  pub small : length made ≤ 16384
+  pub text : Written before 0 (restOf 0 (gather staying what)) made (t .ground)
 
 -- an answer, or none, and then nothing was put out
 unfoldable pub FewAnswers : Answer definition.Resolved → List ℕ → ℕ → List (List ℕ) → List ℕ → List (List ℕ) → List ℕ → Few → Type 0
-FewAnswers a ground room notes ground' notes' work' (few.Lengths n) = Answers a ground room notes ground' notes' work' (resolved.Lengths n)
+FewAnswers a ground room notes ground' notes' work' (few.Answer r) = Answers a ground room notes ground' notes' work' r
 FewAnswers a ground room notes ground' notes' work' few.Other = (ground' ≡ ground) × (notes' ≡ notes)
+
+-- there is none only where what is made has less room than a ground text may need
+unfoldable pub Roomy : List ℕ → Few → Type 0
+Roomy made (few.Answer r) = Unit {0}
+Roomy made few.Other = length made < 16384

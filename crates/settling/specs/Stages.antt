@@ -1,21 +1,17 @@
 -- What is known at each stage of resolving, once the statements have brought what they bring.
 use Prim.Native.Nat.{ℕ, _≤_}
 use mathlib.Core.List.{List, map}
-use mathlib.Core.Option.{none}
 use mathlib.Core.Path.{_≡_}
 use lib.ListN.{length, take}
 use Rattle.reading.specs.Answer.{Answer, accepted, _>>=_}
-use Rattle.writing.specs.Written.{Written}
 use Rattle.resolving.specs.Lists.{gather}
 use Rattle.resolving.specs.Context.{Context}
 use Rattle.resolving.specs.Brought.{Brought}
-use Rattle.resolving.specs.Merging.{merged}
 use Rattle.resolving.specs.Ground.{staying}
 use Rattle.resolving.specs.Resolve.{Resolved, outcome, groundText, upTo, mergeAndGround}
 use Rattle.resolving_laws.specs.Flat.{termsFrom}
 use Rattle.render.proofs.Pieces.{restOf}
-use Rattle.merging.specs.Packing.{effectOf, termOf}
-use Rattle.group_text.specs.Known.{GroupsKnown}
+use Rattle.merging.specs.Packing.{termOf}
 use Rattle.brought.specs.declared.Tally.{Tally}
 use Rattle.brought.specs.Tallies.{notesFrom}
 
@@ -45,17 +41,3 @@ pub record BroughtThere (a : Answer (List Brought)) (t : Tally) (dropped work : 
   pub tallied : Tallied what t dropped
   pub many : t .terms ≡ length (termsFrom 0 what)
   pub terms : t .terms ≤ 2048 → map termOf (take (t .terms) work) ≡ termsFrom 0 what
-  pub room : 6656 ≤ length work
-
--- the merged effects stand from 0 on, and their groups behind
-pub record Grounding (a : Answer (List Brought)) (c : Context) (t : Tally) (dropped work : List ℕ) (count groups : ℕ) : Type 0 where
-  pub what : List Brought
-  pub brought : a ≡ accepted what
-  pub tallied : Tallied what t dropped
-  pub effects : map effectOf (take count work) ≡ merged what
-  pub known : GroupsKnown c work count groups
-  pub few : count ≤ 2048
-
--- the ground text of what all bring was written
-abbrev pub GroundPut : Answer (List Brought) → Context → List ℕ → List ℕ → ℕ → Type 0
-GroundPut a c before after r = (bs : List Brought) → a ≡ accepted bs → Written before 0 (groundText (outcome c bs)) after r

@@ -88,6 +88,16 @@ pub written-next :
     → Written a at (take (i + 1) bs) c n
 written-next bs i h v w = rw (add-one, take-suc bs i 0) (written-on v w)
 
+-- and so is one element set, behind the first bytes of a list
+pub patch-next :
+    {b : List ℕ} (at : ℕ) (a bs : List ℕ) (i : ℕ)
+    → i < length bs
+    → b ≡ patch at a (take i bs)
+    → set b (at + i) (getD bs i 0) ≡ patch at a (take (i + 1) bs)
+patch-next {b} at a bs i h e =
+    let first : Written a at (take i bs) b (at + i) = record { next = ap (λ (n : ℕ). at + n) (sym (length-take-le i bs (le-of-lt h))); bytes = e } in
+    written-next bs i h first (one-set b (at + i) (getD bs i 0)) .bytes
+
 pub same-room : {a b bs : List ℕ} {at r : ℕ} → Written a at bs b r → length b ≡ length a
 same-room {a} {b} {bs} {at} w = ap length (w .bytes) ∙ length-patch at a bs
 

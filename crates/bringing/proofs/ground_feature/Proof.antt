@@ -1,20 +1,20 @@
 -- `bringing::ground_feature` meets its contract, arm by arm.
 -- Assumes nothing.
-use Prim.Native.Nat.{ℕ, _≤_}
-use mathlib.Core.Path.{_≡_, refl, _∙_, ap, sym, subst}
-use mathlib.Core.Bool.{Bool, false}
-use mathlib.Core.List.{List}
+use mathlib.Core.Path.{_≡_, refl, _∙_, sym, subst}
+use mathlib.Core.Logic.{⊎-elim}
 use native.Mathlib.Omega.{arith}
-use lib.ListN.{length}
+use borrow.Author.Tests.{not-true, not-false}
 use denote.Ref.{now}
 use borrow.Author.Needs.{needs}
 use Rattle.labels.specs.Label.{keywords}
 use Rattle.forms.specs.declared.Feature as forms
 use Rattle.forms.specs.declared.Feature.the-variants as form
 use Rattle.forms.specs.declared.Statement.the-variants as statement
+use Rattle.forms.specs.Forms.{featureIn}
 use Rattle.parts.specs.Apart.{apart, featureApart}
 use Rattle.parts.specs.Meaning.{PartsFit}
-use Rattle.bringing.specs.Stays.{Short, Stood, StayAs}
+use Rattle.grounding.proofs.Features.{Whole}
+use Rattle.bringing.specs.Stays.{StayAs}
 use Rattle.bringing.proofs.Variables.{piece-room}
 use Rattle.bringing.proofs.Staying.{
   wholeOf,
@@ -36,50 +36,21 @@ module _ (s : tie.Start) {g : forms.Feature} (e : s .args .feature ≡ g) where
   fits : PartsFit (now (s .args .text)) (apart (statement.Feature g))
   fits = subst (λ (f : forms.Feature). PartsFit (now (s .args .text)) (apart (statement.Feature f))) e (s .pre .5)
 
-  short : Short (now (s .args .text)) g
-  short = subst (Short (now (s .args .text))) e (s .pre .6)
-
 is-covariate-requires : tie.Need-is-covariate-requires
 unfolding apart featureApart
 is-covariate-requires c κs =
     let s = c .before .before .before .before .before .before .before .before in
     (s .pre .3, fits s (c .before .feature .given .1) .first)
 
-put-whole-requires : tie.Need-put-whole-requires
-put-whole-requires c κs =
-    let x = c .before .before .before .before .feature in
-    let s = c .before .before .before .before .before .before .before .before .before .before .before in
-    let f = form.Allometry (x .given .0 .0) (x .given .0 .1 .0) in (
-      s .pre .0,
-      s .pre .1,
-      s .pre .2,
-      fits s (x .given .1),
-      piece-room (s .args .before) (wholeOf (now (s .args .text)) f) (whole-short (now (s .args .text)) f (short s (x .given .1))) (s .args .at) (s .pre .8),
-    )
-
 returns : tie.Need-returns
 unfolding StayAs
 returns c =
-    let p = c .before .before in
-    let t = p .before .before in
-    let i = t .before in
-    let x = i .before .before .feature in
-    let s = i .before .before .before .before .before .before .before .before .before in
-    rw (x .given .1)
-    (whole-stood (now (s .args .text)) (form.Allometry (x .given .0 .0) (x .given .0 .1 .0)) (s .args .before) (short s (x .given .1))
-    (allometry-whole (now (s .args .text)) (now (s .args .block)) (now (s .args .lists)) (now (s .args .lets)) (s .args .n) (x .given .0 .0) (x .given .0 .1 .0)
-    (sym (t .if1 .taken) ∙ i .is-covariate .ensures))
-    (p .put-whole .ensures))
-
-returns-2 : tie.Need-returns-2
-unfolding StayAs
-returns-2 c =
     let i = c .before in
     let x = i .before .before .feature in
     let s = i .before .before .before .before .before .before .before .before .before in (
       rw (x .given .1)
           (allometry-fault (now (s .args .text)) (now (s .args .block)) (now (s .args .lists)) (now (s .args .lets)) (s .args .n) (x .given .0 .0) (x .given .0 .1 .0)
-          (sym (c .if1 .left) ∙ i .is-covariate .ensures)),
+          (sym (not-true _ (c .if1 .taken)) ∙ i .is-covariate .ensures)),
       refl,
     )
 
@@ -104,19 +75,8 @@ stay-variables-requires-3 c κs =
     let s = c .before .before .before .before .before .before .before .before .before .before in
     (s .pre .0, s .pre .1, s .pre .2, s .pre .3, s .pre .4, fits s (x .given .1) .second, omega arith, s .pre .8)
 
-put-whole-requires-2 : tie.Need-put-whole-requires-2
-put-whole-requires-2 c κs =
-    let s = c .before .before .before .before .before .before .before in
-    let f = s .args .feature in (
-      s .pre .0,
-      s .pre .1,
-      s .pre .2,
-      s .pre .5,
-      piece-room (s .args .before) (wholeOf (now (s .args .text)) f) (whole-short (now (s .args .text)) f (s .pre .6)) (s .args .at) (s .pre .8),
-    )
-
-returns-3 : tie.Need-returns-3
-returns-3 c =
+returns-2 : tie.Need-returns-2
+returns-2 c =
     let v = c .before .before in
     let x = v .before .before .before .before .feature2 in
     let s = v .before .before .before .before .before .before .before .before .before .before .before in
@@ -124,8 +84,8 @@ returns-3 c =
     (iiv-stay (now (s .args .text)) (now (s .args .block)) (now (s .args .lists)) (now (s .args .lets)) (s .args .n) (s .args .before) (now (s .args .out))
     (s .args .at) _ (x .given .0 .0) (x .given .0 .1 .0) (x .given .0 .1 .1 .0) (v .stay-variables .result) (v .stay-variables .ensures))
 
-returns-4 : tie.Need-returns-4
-returns-4 c =
+returns-3 : tie.Need-returns-3
+returns-3 c =
     let v = c .before .before in
     let x = v .before .before .before .before .feature3 in
     let s = v .before .before .before .before .before .before .before .before .before .before .before in
@@ -133,8 +93,8 @@ returns-4 c =
     (iov-stay (now (s .args .text)) (now (s .args .block)) (now (s .args .lists)) (now (s .args .lets)) (s .args .n) (s .args .before) (now (s .args .out))
     (s .args .at) _ (x .given .0 .0) (x .given .0 .1 .0) (x .given .0 .1 .1 .0) (v .stay-variables2 .result) (v .stay-variables2 .ensures))
 
-returns-5 : tie.Need-returns-5
-returns-5 c =
+returns-4 : tie.Need-returns-4
+returns-4 c =
     let v = c .before .before in
     let x = v .before .before .before .before .feature4 in
     let s = v .before .before .before .before .before .before .before .before .before .before .before in
@@ -142,16 +102,49 @@ returns-5 c =
     (covariance-stay (now (s .args .text)) (now (s .args .block)) (now (s .args .lists)) (now (s .args .lets)) (s .args .n) (s .args .before) (now (s .args .out))
     (s .args .at) _ (x .given .0 .0) (x .given .0 .1 .0) (x .given .0 .1 .1 .0) (v .stay-variables3 .result) (v .stay-variables3 .ensures))
 
-returns-6 : tie.Need-returns-6
-unfolding StayAs
-returns-6 c =
-    let p = c .before .before in
-    let k = p .before .before in
-    let s = k .before .before .before .before .before .before in
+-- Where the arms meet: ALLOMETRY on a covariate of the model, and what no other arm takes.
+
+abbrev start : tie.At-match-came → tie.Start
+start c = c .before .before .before .before .before .before
+
+-- an arm that takes the feature's fields makes it anew, from the same
+feature-kept : (c : tie.At-match-came) → c .match .feature ≡ start c .args .feature
+feature-kept c = ⊎-elim (λ w. w .5 ∙ sym (w .1 .given .1)) (λ w. w .1) (c .match .came)
+
+abbrev Stays : tie.Start → forms.Feature → Type 0
+Stays s f =
+    Whole (comes (now (s .args .text)) (now (s .args .block)) (now (s .args .lists)) (now (s .args .lets)) (s .args .n) f) (featureIn (now (s .args .text)) f)
+
+stays-whole : (c : tie.At-match-came) → Stays (start c) (start c .args .feature)
+stays-whole c =
+    let a = start c .args in
+    ⊎-elim
+    (λ w.
+    subst (Stays (start c)) (sym (w .1 .given .1))
+    (allometry-whole (now (a .text)) (now (a .block)) (now (a .lists)) (now (a .lets)) (a .n) (w .1 .given .0 .0) (w .1 .given .0 .1 .0)
+    (sym (not-false _ (w .4 .left)) ∙ w .3 .ensures)))
+    (λ w. other-whole (now (a .text)) (now (a .block)) (now (a .lists)) (now (a .lets)) (a .n) (a .feature) (w .0 .keys5) (start c .pre .7))
+    (c .match .came)
+
+put-whole-requires : tie.Need-put-whole-requires
+put-whole-requires c κs =
+    let s = start (c .before) in
     let f = s .args .feature in
-    whole-stood (now (s .args .text)) f (s .args .before) (s .pre .6)
-    (other-whole (now (s .args .text)) (now (s .args .block)) (now (s .args .lists)) (now (s .args .lets)) (s .args .n) f (k .match .keys5) (s .pre .7))
-    (p .put-whole2 .ensures)
+    rw (feature-kept (c .before)) (
+      s .pre .0,
+      s .pre .1,
+      s .pre .2,
+      s .pre .5,
+      piece-room (s .args .before) (wholeOf (now (s .args .text)) f) (whole-short (now (s .args .text)) f (s .pre .6)) (s .args .at) (s .pre .8),
+    )
+
+returns-5 : tie.Need-returns-5
+unfolding StayAs
+returns-5 c =
+    let p = c .before .before in
+    let j = p .before .before in
+    let s = start j in
+    whole-stood (now (s .args .text)) (s .args .feature) (s .args .before) (s .pre .6) (stays-whole j) (rw (feature-kept j) at (p .put-whole .ensures))
 
 pub ground-feature-spec : {M : Type 1} → the-statement M
 ground-feature-spec =
@@ -159,25 +152,22 @@ ground-feature-spec =
     (tie.spec
     (λ c. search needs)
     is-covariate-requires
-    put-whole-requires
-    (λ c. search needs)
     returns
     (λ c. search needs)
     (λ c. search needs)
     stay-variables-requires
     (λ c. search needs)
+    returns-2
+    (λ c. search needs)
     (λ c. search needs)
     stay-variables-requires-2
     (λ c. search needs)
-    (λ c. search needs)
-    stay-variables-requires-3
-    put-whole-requires-2
-    returns-2
-    (λ c. search needs)
     returns-3
     (λ c. search needs)
+    (λ c. search needs)
+    stay-variables-requires-3
+    (λ c. search needs)
     returns-4
+    put-whole-requires
     (λ c. search needs)
-    returns-5
-    (λ c. search needs)
-    returns-6)
+    returns-5)

@@ -1,24 +1,26 @@
--- `brought::bring_all` meets its contract: statements are taken in order, and the first fault stands at its index.
+-- `brought::bring_all` meets its contract: statements are taken in order, the ground statements of those so far that stay are written, and the first
+-- fault stands at its index.
 -- Assumes nothing.
-use Prim.Native.Nat.{ℕ, _-_, _≤_, _<_}
-use mathlib.Core.Path.{_≡_, refl, _∙_, ap, sym, subst}
+use Prim.Native.Nat.{_-_, _≤_, _<_}
+use mathlib.Core.Path.{_≡_, refl, _∙_, subst}
 use native.Mathlib.Omega.{arith}
 use lib.ListN.{length}
-use denote.Ref.{now}
 use borrow.Author.Needs.{needs}
+use Rattle.writing.proofs.Writing.{same-room}
 use Rattle.resolving.specs.Brought.{bring}
 use Rattle.resolving.specs.Handed.{handedContext}
 use Rattle.operands.specs.Entries.{meaningIn}
 use Rattle.space.specs.Space.{formIn}
-use Rattle.brought.specs.Tallies.{BringAs, AllAs}
-use Rattle.brought.proofs.Adding.{Taken, none-taken, one-taken, fault-taken, all-taken}
+use Rattle.brought.specs.Tallies.{BringAs, PrintsAs, AllAs}
+use Rattle.brought.specs.Printed.{AllPrinted}
+use Rattle.brought.proofs.Adding.{Texted, none-texted, one-texted, fault-taken, all-taken, all-texted}
 use Rattle.brought.proofs.bring_all.Statement.{statement}
 use Rattle.brought.proofs.bring_all.Tie as tie
 
 abbrev Inv-loop : tie.InvT-loop
 Inv-loop text classes labels keys block lists layout lets n terms₀ dropped₀ out₀ forms count tally₀ i₀ terms dropped out tally i =
-    Taken (bring (handedContext block lists) (meaningIn text lets n (handedContext block lists))) (formIn text) forms count i terms₀ dropped₀ tally terms
-    dropped
+    Texted (bring (handedContext block lists) (meaningIn text lets n (handedContext block lists))) (formIn text) forms count i terms₀ dropped₀ tally terms
+    dropped out₀ out
     × (length out ≡ length out₀)
     × (length terms ≡ length terms₀)
     × (length dropped ≡ length dropped₀)
@@ -27,7 +29,7 @@ abbrev μ-loop : tie.MeasureT-loop
 μ-loop text classes labels keys block lists layout lets n terms₀ dropped₀ out₀ forms count tally₀ i₀ terms dropped out tally i = count - i
 
 loop-holds : tie.Need-loop-holds Inv-loop μ-loop
-loop-holds c = (none-taken _ _ _ _ _ _, refl, refl, refl)
+loop-holds c = (none-texted _ _ _ _ _ _ _, refl, refl, refl)
 
 -- the index lies in the array
 inside :
@@ -51,7 +53,7 @@ bring-one-requires c κs =
     let t = c .before .before .before .before in
     let l = t .before in
     let s = l .before .before .before .before .before .before .before .before .before in
-    let g = l .loop .inv .0 in
+    let g = l .loop .inv .0 .taken in
     let h = inside t .0 in (
       s .pre .0,
       s .pre .1,
@@ -77,40 +79,43 @@ loop-less c =
     omega (arith, b .before .before .before .before .before .loop-test .taken)
 
 loop-again : tie.Need-loop-again Inv-loop μ-loop
-unfolding BringAs
+unfolding BringAs PrintsAs
 loop-again c =
     let x = c .before .next in
     let b = c .before .before .before .before .before .before .before .before .before in
     let t = b .before .before .before .before .before in
     let h = subst (BringAs _ _ _ _ _ _ _) (x .given .1) (b .bring-one .ensures .0) in
+    let w = subst (PrintsAs _ _ _ _) (x .given .1) (b .bring-one .ensures .1) (h .what) (h .brought) in
     let i = t .before .loop .inv in (
-      one-taken (i .0) _ (t .loop-test .taken) (inside t .1) (h .brought) (h .adds),
-      search (needs, i .1),
-      search (needs, i .2),
-      search (needs, i .3),
+      one-texted (i .0 .taken) _ (t .loop-test .taken) (inside t .1) (i .0 .text) (h .brought) (h .adds) w,
+      same-room w ∙ i .1,
+      same-room (h .adds .terms) ∙ i .2,
+      same-room (h .adds .dropped) ∙ i .3,
     )
 
 returns : tie.Need-returns Inv-loop μ-loop
-unfolding BringAs AllAs
+unfolding BringAs AllAs AllPrinted
 returns c =
     let x = c .before .number in
     let b = c .before .before .before .before .before .before .before .before .before in
     let t = b .before .before .before .before .before in
     let h = subst (BringAs _ _ _ _ _ _ _) (x .given .1) (b .bring-one .ensures .0) in
-    fault-taken (t .before .loop .inv .0) _ (t .loop-test .taken) (inside t .1) (x .given .0 .0) h
+    (fault-taken (t .before .loop .inv .0 .taken) _ (t .loop-test .taken) (inside t .1) (x .given .0 .0) h, tt)
 
 returns-2 : tie.Need-returns-2 Inv-loop μ-loop
-unfolding AllAs
+unfolding AllAs AllPrinted
 returns-2 c =
     let l = c .before in
     let s = l .before .before .before .before .before .before .before .before .before in
-    let g = l .loop .inv .0 in
-    record {
-      what = g .what;
-      brought = all-taken g (c .loop-test .left);
-      added = g .added;
-      small = omega (arith, g .small, g .most, s .pre .5 .few);
-    }
+    let g = l .loop .inv .0 .taken in (
+      record {
+        what = g .what;
+        brought = all-taken g (c .loop-test .left);
+        added = g .added;
+        small = omega (arith, g .small, g .most, s .pre .5 .few);
+      },
+      all-texted (l .loop .inv .0) (c .loop-test .left),
+    )
 
 -- the buffers keep their lengths
 at-loop : (c : tie.After-known-told2 Inv-loop μ-loop) → tie.At-loop Inv-loop μ-loop

@@ -1,6 +1,6 @@
 -- `group_text::put_groups` meets its contract. The invariant: what is left to be written are the statements of the groups that are left.
 -- Assumes nothing.
-use Prim.Native.Nat.{ℕ, _+_, _≤_, _<_, _-_}
+use Prim.Native.Nat.{ℕ, _+_, _*_, _-_, _≤_, _<_}
 use mathlib.Core.Path.{_≡_, ap}
 use mathlib.Core.List.{List, _++_, map}
 use native.Mathlib.Omega.{arith}
@@ -32,13 +32,16 @@ use Rattle.group_text.proofs.put_groups.Statement.{statement}
 use Rattle.group_text.proofs.put_groups.Tie as tie
 
 abbrev Inv-loop : tie.InvT-loop
-Inv-loop block classes lists labels keys layout work count groups before out₀ at j₀ next₀ out j next =
+Inv-loop block classes lists labels keys layout work listed count groups before out₀ at j₀ next₀ out j next =
     (j ≤ groups)
     × Going out₀ at (restOf before (groundEffects (handedContext block lists) (map effectOf (take count work)))) out next
     (leftFrom (handedContext block lists) (map effectOf (take count work)) (before + j) j)
 
 abbrev μ-loop : tie.MeasureT-loop
-μ-loop block classes lists labels keys layout work count groups before out₀ at j₀ next₀ out j next = groups - j
+μ-loop block classes lists labels keys layout work listed count groups before out₀ at j₀ next₀ out j next = groups - j
+
+abbrev startOf : tie.At-loop Inv-loop μ-loop → tie.Start Inv-loop μ-loop
+startOf l = l .before .before .before .before .before .before
 
 -- the context that the names are of, and the effects whose groups are printed
 abbrev contextOf : tie.Start Inv-loop μ-loop → Context
@@ -49,7 +52,7 @@ effectsOf s = map effectOf (take (s .args .count) (now (s .args .work)))
 
 loop-holds : tie.Need-loop-holds Inv-loop μ-loop
 loop-holds c =
-    let s = c .before .before .before .before in (
+    let s = c .before .before .before .before .before in (
       omega arith,
       told (ap (λ (n : ℕ). leftFrom (contextOf s) (effectsOf s) n 0) (omega arith)) (going _ _ _),
     )
@@ -58,66 +61,44 @@ loop-holds c =
 index-below : (t : tie.In-loop Inv-loop μ-loop) → t .before .loop .j < 256
 index-below t =
     let l = t .before in
-    omega (arith, t .loop-test .taken, l .before .before .before .before .before .pre .4 .stand .few)
+    omega (arith, t .loop-test .taken, startOf l .pre .4 .stand .few)
 
 -- the statement of the group, and what is left behind it
 group-ahead :
     (t : tie.In-loop Inv-loop μ-loop)
     → let l = t .before in
-    let s = l .before .before .before .before .before in
+    let s = startOf l in
     leftFrom (contextOf s) (effectsOf s) (s .args .before + l .loop .j) (l .loop .j)
     ≡ jointOf (s .args .before + l .loop .j)
-    ++ (groupBytes (contextOf s) (now (s .args .work)) (l .loop .j)
+    ++ (groupBytes (contextOf s) (now (s .args .listed)) (l .loop .j)
     ++ leftFrom (contextOf s) (effectsOf s) (s .args .before + (l .loop .j + 1)) (l .loop .j + 1))
 group-ahead t =
     let l = t .before in
-    let s = l .before .before .before .before .before in
-    group-next (contextOf s) (now (s .args .work)) (s .args .count) (s .args .groups) (s .pre .4) (s .args .before) (l .loop .j)
-    (t .loop-test .taken)
+    let s = startOf l in
+    group-next (contextOf s) (now (s .args .work)) (now (s .args .listed)) (s .args .count) (s .args .groups) (s .pre .4) (s .args .before)
+    (l .loop .j) (t .loop-test .taken)
 
 room-for-all : (s : tie.Start Inv-loop μ-loop) → Room (s .args .at) (restOf (s .args .before) (groundEffects (contextOf s) (effectsOf s)))
 room-for-all s =
-    groups-room (contextOf s) (now (s .args .work)) (s .args .count) (s .args .groups) (s .pre .4)
+    groups-room (contextOf s) (now (s .args .work)) (now (s .args .listed)) (s .args .count) (s .args .groups) (s .pre .4)
     (parameters-short (now (s .args .block)) (now (s .args .lists)) (s .args .layout) (s .pre .3))
     (covariates-short (now (s .args .block)) (now (s .args .lists)) (s .args .layout) (s .pre .3))
     (s .args .before) (s .args .at) (s .pre .6)
 
-mul-group : tie.Need-mul-group Inv-loop μ-loop
-mul-group c = omega (arith, index-below c)
-
-add-group : tie.Need-add-group Inv-loop μ-loop
-add-group c = omega (arith, index-below c)
-
-mul-group-2 : tie.Need-mul-group-2 Inv-loop μ-loop
-mul-group-2 c = omega (arith, index-below c, c .before .before .before .before .before .before .pre .4 .room)
-
-shared-slice-read-group : tie.Need-shared-slice-read-group Inv-loop μ-loop
-shared-slice-read-group c =
-    omega (arith, index-below (c .before), c .before .before .before .before .before .before .before .pre .4 .room)
-
-mul-packed : tie.Need-mul-packed Inv-loop μ-loop
-mul-packed c = omega (arith, index-below (c .before))
-
-add-packed : tie.Need-add-packed Inv-loop μ-loop
-add-packed c = omega (arith, index-below (c .before))
-
-mul-packed-2 : tie.Need-mul-packed-2 Inv-loop μ-loop
-mul-packed-2 c = omega (arith, index-below (c .before), c .before .before .before .before .before .before .before .pre .4 .room)
-
-shared-slice-read-packed : tie.Need-shared-slice-read-packed Inv-loop μ-loop
-shared-slice-read-packed c =
-    omega (arith, index-below (c .before .before), c .before .before .before .before .before .before .before .before .pre .4 .room)
+-- its two numbers are listed
+index-room : (t : tie.In-loop Inv-loop μ-loop) → let l = t .before in 2 * l .loop .j + 1 < length (now (startOf l .args .listed))
+index-room t = let l = t .before in omega (arith, t .loop-test .taken, startOf l .pre .4 .room)
 
 add-put-joint : tie.Need-add-put-joint Inv-loop μ-loop
 add-put-joint c =
     let t = c .before .before in
-    omega (arith, index-below t, t .before .before .before .before .before .before .pre .5)
+    omega (arith, index-below t, startOf (t .before) .pre .5)
 
 put-joint-requires : tie.Need-put-joint-requires Inv-loop μ-loop
 put-joint-requires c κs =
     let t = c .before .before .before in
     let l = t .before in
-    let s = l .before .before .before .before .before in
+    let s = startOf l in
     room-first (jointOf (s .args .before + l .loop .j)) _ (room-for-all s) (told (group-ahead t) (l .loop .inv .1))
 
 put-group-requires : tie.Need-put-group-requires Inv-loop μ-loop
@@ -125,15 +106,17 @@ put-group-requires c κs =
     let p = c .before .before .before in
     let t = p .before .before .before .before in
     let l = t .before in
-    let s = l .before .before .before .before .before in
-    let e = group-entered (contextOf s) (now (s .args .work)) (s .args .count) (s .args .groups) (s .pre .4) (l .loop .j) (t .loop-test .taken) in (
+    let s = startOf l in
+    let e =
+    group-entered (contextOf s) (now (s .args .work)) (now (s .args .listed)) (s .args .count) (s .args .groups) (s .pre .4) (l .loop .j)
+    (t .loop-test .taken) in (
       s .pre .0,
       s .pre .1,
       s .pre .2,
       s .pre .3,
       omega (arith, e .0, parameters-many (now (s .args .block)) (now (s .args .lists)) (s .args .layout) (s .pre .3)),
       omega (arith, e .1, covariates-many (now (s .args .block)) (now (s .args .lists)) (s .args .layout) (s .pre .3)),
-      room-first (groupBytes (contextOf s) (now (s .args .work)) (l .loop .j)) _ (room-for-all s)
+      room-first (groupBytes (contextOf s) (now (s .args .listed)) (l .loop .j)) _ (room-for-all s)
           (further (told (group-ahead t) (l .loop .inv .1)) (p .put-joint .ensures)),
     )
 
@@ -161,10 +144,10 @@ same-length c = as-long (c .before .loop .inv .1)
 returns : tie.Need-returns Inv-loop μ-loop
 returns c =
     let l = c .before in
-    let s = l .before .before .before .before .before in
+    let s = startOf l in
     no-more
     (told
-    (none-next (contextOf s) (now (s .args .work)) (s .args .count) (s .args .groups) (s .pre .4) (s .args .before + l .loop .j) (l .loop .j)
+    (none-next (contextOf s) (now (s .args .work)) (now (s .args .listed)) (s .args .count) (s .args .groups) (s .pre .4) (s .args .before + l .loop .j) (l .loop .j)
     (omega (arith, c .loop-test .left)))
     (l .loop .inv .1))
 
@@ -175,14 +158,13 @@ put-groups-spec =
     Inv-loop
     μ-loop
     loop-holds
-    mul-group
-    add-group
-    mul-group-2
-    shared-slice-read-group
-    mul-packed
-    add-packed
-    mul-packed-2
-    shared-slice-read-packed
+    (λ c. omega (arith, index-below c))
+    (λ c. omega (arith, index-below c))
+    (λ c. omega (arith, index-room (c .before)))
+    (λ c. omega (arith, index-below (c .before)))
+    (λ c. omega (arith, index-below (c .before)))
+    (λ c. omega (arith, index-below (c .before)))
+    (λ c. index-room (c .before .before))
     add-put-joint
     put-joint-requires
     (λ c. search needs)

@@ -14,7 +14,7 @@ use Rattle.statements.specs.Answers.{AdmissionAs}
 use Rattle.settling.specs.Answers.{resolvedAs}
 use Rattle.settling.specs.Short.{FewAnswers}
 use Rattle.settling.proofs.Answering.{refused-answers, answers-back}
-use Rattle.resolve.proofs.Calling.{refused-handed}
+use Rattle.taken.proofs.Refusing.{text-refused}
 use Rattle.resolve.proofs.resolve_in.Statement.{statement}
 use Rattle.resolve.proofs.resolve_in.Tie as tie
 
@@ -23,7 +23,7 @@ unfolding resolvedAs
 returns c =
     let r = c .before .r .given in
     let d = c .before .before .before in
-    refused-answers _ _ _ (refused-handed _ _ _ _ _ _ (subst (AdmissionAs _ _) (r .1) (d .admit .ensures))) refl
+    refused-answers _ _ _ (text-refused _ _ _ _ (subst (AdmissionAs _ _) (r .1) (d .admit .ensures))) refl
 
 -- the text and its ceiling are admitted
 fine :
@@ -51,7 +51,7 @@ resolve-short-requires c κs =
 
 returns-3 : tie.Need-returns-3
 unfolding FewAnswers
-returns-3 c = subst (FewAnswers _ _ _ _ _ _ _) (c .before .n .given .1) (c .before .before .before .before .before .before .before .before .resolve-short .ensures)
+returns-3 c = subst (FewAnswers _ _ _ _ _ _ _) (c .before .resolved .given .1) (c .before .before .before .before .before .before .before .before .resolve-short .ensures)
 
 -- any other: the outputs are as they were
 abbrev admitted-at : tie.After-enum-told2 → tie.After-enum-told
