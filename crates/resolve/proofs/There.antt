@@ -1,13 +1,10 @@
 -- What a text's statements bring, as what follows takes it; and what the text then resolves to.
 -- Assumes nothing.
 use Prim.Native.Nat.{ℕ, _≤_}
-use native.Mathlib.Omega.{arith}
 use mathlib.Core.Path.{_≡_, _∙_, sym, subst}
 use mathlib.Core.List.{List}
 use lib.ListN.{length}
-use Rattle.reading.specs.Answer.{accepted}
 use Rattle.writing.specs.Written.{Written}
-use Rattle.writing.proofs.Writing.{same-room}
 use Rattle.render.proofs.Pieces.{restOf}
 use Rattle.resolving.specs.Lists.{gather}
 use Rattle.resolving.specs.Brought.{Brought, bring}
@@ -23,8 +20,8 @@ use Rattle.settling.proofs.Settling.{accepted-same, all-there}
 
 module _ {limit : ℕ} {s b l ts ds out ts' ds' out' : List ℕ} {u : Tally} (h : TextBrings limit s b l ts ds out ts' ds' out' u) where
   -- where all was made in buffers of these lengths
-  unfoldable pub text-there : length ds ≡ 256 → 2048 ≤ length ts → length out ≤ 16384 → FewThere (handedContext b l) u ds' ts' out'
-  text-there wide room size =
+  unfoldable pub text-there : length ds ≡ 256 → 2048 ≤ length ts → FewThere (handedContext b l) u ds' ts' out'
+  text-there wide room =
       let c = handedContext b l in
       let look = meaningIn s (h .run) (h .n) c in
       let there = all-there (bring c look) (h .statements) (h .brought) (h .most) wide room in
@@ -36,11 +33,10 @@ module _ {limit : ℕ} {s b l ts ds out ts' ds' out' : List ℕ} {u : Tally} (h 
         text =
             subst (λ (bs : List Brought). Written out 0 (restOf 0 (gather staying bs)) out' (u .ground))
             (accepted-same (sym (h .brought .brought) ∙ there .brought)) (h .text);
-        small = omega (arith, size, same-room (h .text));
       }
 
   -- the text resolves to what they come to
-  pub text-resolved : (wide : length ds ≡ 256) (room : 2048 ≤ length ts) (size : length out ≤ 16384)
-      → resolveHanded limit b l s ≡ mergeAndGround (handedContext b l) (text-there wide room size .there .what)
+  pub text-resolved : (wide : length ds ≡ 256) (room : 2048 ≤ length ts)
+      → resolveHanded limit b l s ≡ mergeAndGround (handedContext b l) (text-there wide room .there .what)
   unfolding text-there
-  text-resolved wide room size = brought-answer limit b l s (h .read) (h .handed) (h .collected) (text-there wide room size .there .brought)
+  text-resolved wide room = brought-answer limit b l s (h .read) (h .handed) (h .collected) (text-there wide room .there .brought)

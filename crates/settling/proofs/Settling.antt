@@ -5,7 +5,7 @@ use native.Mathlib.Omega.{arith}
 use mathlib.Core.Path.{_≡_, _∙_, ap, sym}
 use mathlib.Core.List.{List, [], _∷_, map}
 use lib.ListN.{length, take, drop, length-map}
-use lib.Seq.{take-append-seam, length-take-le}
+use lib.Seq.{take-append-seam}
 use Rattle.reading.specs.Answer.{Answer, accepted, refused}
 use Rattle.reading.specs.Statement.{Statement}
 use Rattle.writing.specs.Written.{Written}
@@ -25,12 +25,10 @@ use Rattle.merging.specs.declared.Outcome.the-variants as outcomes
 use Rattle.merging.specs.declared.Grouped.{Grouped}
 use Rattle.merging.specs.declared.Grouped.the-variants as grouped
 use Rattle.merging.proofs.Answers.{merged-answer, refused-answer, groups-over}
-use Rattle.space.specs.declared.Space.{Space}
-use Rattle.space.specs.Space.{Whole, formIn, statementsIn}
 use Rattle.brought.specs.declared.Tally.{Tally}
 use Rattle.brought.specs.Tallies.{notesFrom, AllBrings}
 use Rattle.brought.proofs.Adding.{first-of}
-use Rattle.settling.specs.Stages.{grounded, settled, BroughtThere}
+use Rattle.settling.specs.Stages.{grounded, BroughtThere}
 use Rattle.settling.proofs.Grounds.{over-merged, forced-merged, peace-merged, forced-told, Unforced, merged-told, terms-many, many-grounded, statements-many}
 
 pub accepted-same : {B : Type 0} {x y : List B} → accepted x ≡ accepted y → x ≡ y
@@ -149,16 +147,3 @@ module _ (f : Statement → Answer Brought) (ss : List Statement) {ts ds ts' ds'
             λ h.
             ap (λ (l : List ℕ). map termOf l) (front-stands (d .terms) (omega (arith, h, room, d .terms .next))) ∙ d .mean;
       }
-
--- the answer of what all bring, and of a refusal
-pub settled-on : (c : Context) {a : Answer (List Brought)} {bs : List Brought} → a ≡ accepted bs → settled c a ≡ mergeAndGround c bs
-settled-on c e = ap (λ (x : Answer (List Brought)). settled c x) e
-
-pub settled-refused : (c : Context) {a : Answer (List Brought)} {k p : ℕ} → a ≡ refused k p → settled c a ≡ refused k p
-settled-refused c e = ap (λ (x : Answer (List Brought)). settled c x) e
-
--- there are at most 256 statements
-pub statements-few : (text : List ℕ) (space : Space) → Whole space → length (statementsIn text space) ≤ 256
-statements-few text space w =
-    let h : space .count ≤ length (space .forms) = omega (arith, w .few, w .wide) in
-    omega (arith, w .few, length-map (take (space .count) (space .forms)) (formIn text), length-take-le (space .count) (space .forms) h)

@@ -22,14 +22,13 @@ use Rattle.settling.specs.declared.Few.the-variants as few
 use Rattle.settling.specs.Answers.{Answers}
 use Rattle.settling.specs.Stages.{Tallied, BroughtThere}
 
--- `made` has the ground statements of what stays, and is no longer than a ground text may be
+-- `made` has the ground statements of what stays, as far as there is room for them
 pub record FewThere (c : Context) (t : Tally) (dropped work made : List ℕ) : Type 0 where
   pub statements : List Statement
   pub look : Meaning
   pub there : BroughtThere (eachFrom (bring c look) 0 statements) t dropped work
   pub before : List ℕ
   pub text : Written before 0 (restOf 0 (gather staying (there .what))) made (t .ground)
-  pub small : length made ≤ 16384
 
 -- the merged effects stand from 0 on, and their groups are listed
 pub record FewGrounding (c : Context) (t : Tally) (dropped work listed : List ℕ) (count groups : ℕ) (made : List ℕ) : Type 0 where

@@ -3,12 +3,12 @@ use Prim.Native.Nat.{ℕ, _≤_}
 use mathlib.Core.List.{List, map}
 use mathlib.Core.Path.{_≡_}
 use lib.ListN.{length, take}
-use Rattle.reading.specs.Answer.{Answer, accepted, _>>=_}
+use Rattle.reading.specs.Answer.{Answer, accepted}
 use Rattle.resolving.specs.Lists.{gather}
 use Rattle.resolving.specs.Context.{Context}
 use Rattle.resolving.specs.Brought.{Brought}
 use Rattle.resolving.specs.Ground.{staying}
-use Rattle.resolving.specs.Resolve.{Resolved, outcome, groundText, upTo, mergeAndGround}
+use Rattle.resolving.specs.Resolve.{Resolved, outcome, groundText, upTo}
 use Rattle.resolving_laws.specs.Flat.{termsFrom}
 use Rattle.render.proofs.Pieces.{restOf}
 use Rattle.merging.specs.Packing.{termOf}
@@ -19,10 +19,6 @@ use Rattle.brought.specs.Tallies.{notesFrom}
 unfoldable pub grounded : Context → List Brought → Answer Resolved
 grounded c bs =
     upTo 256 (length (outcome c bs .statements)) (upTo 16384 (length (groundText (outcome c bs))) (accepted (outcome c bs)))
-
--- 4 and 5, once the statements have brought what they bring
-abbrev pub settled : Context → Answer (List Brought) → Answer Resolved
-settled c a = a >>= mergeAndGround c
 
 -- how many statements stay, how many bytes they have, and which are dropped
 pub record Tallied (bs : List Brought) (t : Tally) (dropped : List ℕ) : Type 0 where

@@ -62,7 +62,6 @@ there t =
     let k = taken-at t in
     let h = subst (TakenAs _ _ _ _ _ _ _ _ _ _ _) (t .tally .given .1) (k .take-text .ensures) in
     text-there h refl (omega (arith, k .before .before .before .before .before .before .no-bench .ensures))
-    (omega (arith, k .before .before .before .before .before .no-text .ensures))
 
 -- the text resolves to what that comes to
 resolved-to :
@@ -75,7 +74,6 @@ resolved-to t =
     let k = taken-at t in
     let h = subst (TakenAs _ _ _ _ _ _ _ _ _ _ _) (t .tally .given .1) (k .take-text .ensures) in
     text-resolved h refl (omega (arith, k .before .before .before .before .before .before .no-bench .ensures))
-    (omega (arith, k .before .before .before .before .before .no-text .ensures))
 
 -- what is made is as long as it was
 room :

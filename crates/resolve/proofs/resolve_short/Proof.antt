@@ -1,5 +1,5 @@
 -- `resolve::resolve_short` meets its contract: what the statements bring is taken, and then merged and grouped. Assumes nothing.
-use mathlib.Core.Path.{_≡_, refl, subst}
+use mathlib.Core.Path.{refl, subst}
 use native.Mathlib.Omega.{arith}
 use denote.Ref.{now}
 use borrow.Author.Needs.{needs}
@@ -55,7 +55,7 @@ settle-few-requires c κs =
       s .pre .1,
       s .pre .2,
       record { is = h .handed; there = l .read-layout .ensures },
-      text-there h refl (s .pre .4) (omega arith),
+      text-there h refl (s .pre .4),
       omega (arith, s .pre .4, same-room (h .brought .added .terms)),
     )
 
@@ -68,8 +68,8 @@ returns-3 c =
     let k = taken-at t in
     let s = start k in
     let h = subst (TakenAs _ _ _ _ _ _ _ _ _ _ _) (t .tally .given .1) (k .take-text .ensures) in
-    same-few _ _ _ _ _ _ _ _ (d .settle-few .result) (text-resolved h refl (s .pre .4) (omega arith))
-    (d .settle-few .ensures (text-there h refl (s .pre .4) (omega arith)))
+    same-few _ _ _ _ _ _ _ _ (d .settle-few .result) (text-resolved h refl (s .pre .4))
+    (d .settle-few .ensures (text-there h refl (s .pre .4)))
 
 pub resolve-short-spec : {M : Type 1} → statement M
 resolve-short-spec =
