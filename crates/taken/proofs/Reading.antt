@@ -34,9 +34,9 @@ use Rattle.space.specs.declared.Form.{Form}
 use Rattle.space.specs.Space.{formIn}
 use Rattle.space.specs.Fit.{Fit}
 use Rattle.space.proofs.Fitting.{one-shorter}
-use Rattle.collecting.specs.Collected.{present}
 use Rattle.taken.specs.declared.Again.{Again}
 use Rattle.taken.specs.Again.{endAfter, AgainAs}
+use Rattle.taken.specs.Collected.{present}
 
 lt-or-ge : (a b : ℕ) → (a < b) ⊎ (b ≤ a)
 lt-or-ge a b = by (ltb a b) refl

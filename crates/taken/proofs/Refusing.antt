@@ -16,8 +16,8 @@ use Rattle.resolving.specs.Resolve.{Resolved, atMostOnce, mergeAndGround, resol
 use Rattle.resolving.specs.Given.{isContext, contextIn, resolveText}
 use Rattle.resolving.specs.Handed.{isRun, givenIn, isHanded, handedContext, resolveHanded}
 use Rattle.operands.specs.Entries.{meaningIn}
-use Rattle.collecting.specs.Collected.{CollectedAll}
-use Rattle.collecting.proofs.Meaning.{collected-meaning}
+use Rattle.taken.specs.Collected.{CollectedAll}
+use Rattle.taken.proofs.Meaning.{collected-meaning}
 
 by-run : (t x : Bool) (a : Answer (List Statement)) (f : List Statement → Answer Resolved)
     → cond t (a >>= (λ ss. cond x (f ss) (refused wrongContext 0))) (a >>= (λ ss. refused wrongContext 0))

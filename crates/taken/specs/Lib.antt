@@ -1,2 +1,3 @@
 pub mod Again
+pub mod Collected
 pub mod Taken

@@ -15,11 +15,11 @@ use Rattle.resolving.specs.Brought.{bring, eachFrom}
 use Rattle.resolving.specs.Ground.{staying}
 use Rattle.resolving.specs.Handed.{isHanded, handedContext, resolveHanded}
 use Rattle.operands.specs.Entries.{meaningIn}
-use Rattle.collecting.specs.Collected.{CollectedAll}
 use Rattle.brought.specs.declared.Tally.{Tally}
 use Rattle.brought.specs.Tallies.{AllBrings}
 use Rattle.taken.specs.declared.Taken.{Taken}
 use Rattle.taken.specs.declared.Taken.the-variants as taken
+use Rattle.taken.specs.Collected.{CollectedAll}
 
 pub record TextBrings (limit : ℕ) (s b l : List ℕ) (ts ds out : List ℕ) (ts' ds' out' : List ℕ) (u : Tally) : Type 0 where
   pub handed : isHanded b l ≡ true

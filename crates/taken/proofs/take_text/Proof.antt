@@ -19,9 +19,8 @@ use Rattle.forms.specs.Fits.{InText, Listed}
 use Rattle.forms.specs.Forms.{statementIn}
 use Rattle.statements.specs.Answers.{readAt, nextThen, NextFurther}
 use Rattle.writing.proofs.Writing.{same-room}
-use Rattle.collecting.specs.Collected.{present, CollectedAll}
-use Rattle.collecting.proofs.Gathering.{Gathering, none-gathered, all-gathered, feature-passed, key-again, one-gathered, let-stands}
 use Rattle.brought.specs.Tallies.{BringAs, PrintsAs}
+use Rattle.taken.specs.Collected.{present, CollectedAll}
 use Rattle.taken.specs.Taken.{TakenAs}
 use Rattle.taken.proofs.Reading.{
   Reading,
@@ -39,6 +38,7 @@ use Rattle.taken.proofs.Reading.{
   here,
   here-fits,
 }
+use Rattle.taken.proofs.Gathering.{Gathering, none-gathered, all-gathered, feature-passed, key-again, one-gathered, let-stands}
 use Rattle.taken.proofs.Bringing.{Bringing, none-brought, one-brought, one-refused, all-brought}
 use Rattle.taken.proofs.Refusing.{text-refused, context-refused, let-refused, statement-refused}
 use Rattle.taken.proofs.take_text.Statement.{statement}

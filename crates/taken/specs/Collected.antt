@@ -1,4 +1,4 @@
--- Document 01, Resolving: "Collect every LET; the key ignores ASCII case." And Faults, 13: "second LET of a key", at its index.
+-- Document 01, Resolving: "Collect every LET; the key ignores ASCII case."
 use Prim.Native.Nat.{ℕ}
 use mathlib.Core.List.{List, [], _∷_}
 use mathlib.Core.Option.{Option, some, none}
@@ -7,8 +7,6 @@ use Rattle.reading.specs.Statement.{Statement}
 use Rattle.resolving.specs.Lists.{again}
 use Rattle.resolving.specs.Symbols.{Definition, lets, sameKey}
 use Rattle.symbols.specs.Lets.{definitionsIn, LetsFit}
-use Rattle.collecting.specs.declared.Collected.{Collected}
-use Rattle.collecting.specs.declared.Collected.the-variants.{Count, Second}
 
 -- the LETs among the statements
 abbrev pub present : List (Option Definition) → List Definition
@@ -21,7 +19,3 @@ pub record CollectedAll (s : List ℕ) (ss : List Statement) (run : List ℕ) (n
   pub fit : LetsFit s run n
   pub are : definitionsIn s run n ≡ present (lets ss)
   pub once : again sameKey (lets ss) ≡ none
-
-unfoldable pub CollectedAs : List ℕ → List Statement → List ℕ → Collected → Type 0
-CollectedAs s ss run (Count n) = CollectedAll s ss run n
-CollectedAs s ss run (Second i) = again sameKey (lets ss) ≡ some i

@@ -28,7 +28,7 @@ use Rattle.parts.specs.Meaning.{PartsFit}
 use Rattle.parts.proofs.Fitting.{statement-fits}
 use Rattle.symbols.specs.Lets.{definitionsIn, hasKey, LetsFit, LetPut}
 use Rattle.space.specs.Fit.{Fit}
-use Rattle.collecting.specs.Collected.{present, CollectedAll}
+use Rattle.taken.specs.Collected.{present, CollectedAll}
 
 -- Places further on.
 

@@ -10,7 +10,7 @@ use Rattle.resolving.specs.Context.{Context}
 use Rattle.resolving.specs.Builtins.{builtin}
 use Rattle.resolving.specs.Symbols.{Definition, lets, Meaning, letting, meaningAfter, lookUp}
 use Rattle.symbols.specs.Lets.{definitionsIn}
-use Rattle.collecting.specs.Collected.{present, CollectedAll}
+use Rattle.taken.specs.Collected.{present, CollectedAll}
 
 after-present : (look : Meaning) (ds : List (Option Definition)) → meaningAfter look ds ≡ meaningAfter look (map some (present ds))
 after-present look [] = refl
