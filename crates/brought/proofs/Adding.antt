@@ -1,13 +1,11 @@
 -- What the statements so far bring, and one more.
 -- Assumes nothing.
-use Prim.Native.Nat.{ℕ, suc, _+_, _*_, _≤_, _<_}
+use Prim.Native.Nat.{ℕ, suc, _+_}
 use native.Mathlib.Nat.{add-zero}
-use native.Mathlib.Numerals.{add-one}
 use native.Mathlib.Omega.{arith}
 use mathlib.Core.Path.{_≡_, refl, _∙_, ap, ap₂, sym, subst}
 use mathlib.Core.List.{List, [], _∷_, _++_, map, map-append, append-assoc, append-nil}
-use lib.ListN.{length, length-append, getD}
-use lib.Seq.{slice, slice-cons, slice-empty}
+use lib.ListN.{length, length-append}
 use Rattle.reading.specs.Answer.{Answer, accepted, refused, _>>=_}
 use Rattle.reading.specs.Statement.{Statement}
 use Rattle.writing.specs.Written.{Written}
@@ -19,7 +17,6 @@ use Rattle.resolving.specs.Brought.{Brought, defining, dropped, stays, brings, 
 use Rattle.resolving.specs.Ground.{staying}
 use Rattle.resolving_laws.specs.Flat.{Term, term, termsFrom}
 use Rattle.merging.specs.Packing.{termOf}
-use Rattle.space.specs.declared.Form.{Form}
 use Rattle.brought.specs.declared.Tally.{Tally}
 use Rattle.brought.specs.Tallies.{noteOf, notesFrom, Adds, Added}
 
@@ -145,124 +142,6 @@ module _ {A B : Type 0} (f : A → Answer B) where
 
   pub after-all : (bs : List B) (i : ℕ) → after bs (eachFrom f i []) ≡ accepted bs
   after-all bs i = ap accepted (append-nil bs)
-
--- So many statements of a list were taken.
-pub record Taken {A : Type 0} (f : A → Answer Brought) (mean : Form → A) (forms : List Form) (count i : ℕ) (ts₀ ds₀ : List ℕ) (t : Tally)
-    (ts ds : List ℕ) : Type 0 where
-  pub what : List Brought
-  pub many : length what ≡ i
-  pub each : eachFrom f 0 (map mean (slice 0 count forms)) ≡ after what (eachFrom f i (map mean (slice i count forms)))
-  pub added : Added what ts₀ ds₀ t ts ds
-  pub most : i ≤ count
-  pub few : t .terms ≤ 32768 * i
-  pub small : t .ground ≤ 20001 * i
-  pub stay : t .stays ≤ i
-  pub noted : t .dropped ≤ i
-
--- And the ground statements of those that stay were written.
-pub record Texted {A : Type 0} (f : A → Answer Brought) (mean : Form → A) (forms : List Form) (count i : ℕ) (ts₀ ds₀ : List ℕ) (t : Tally)
-    (ts ds out₀ out : List ℕ) : Type 0 where
-  pub taken : Taken f mean forms count i ts₀ ds₀ t ts ds
-  pub text : Written out₀ 0 (restOf 0 (gather staying (taken .what))) out (t .ground)
-
-module _ {A : Type 0} (f : A → Answer Brought) (mean : Form → A) (forms : List Form) (count : ℕ) where
-  pub none-taken : (ts ds : List ℕ) → Taken f mean forms count 0 ts ds nothing ts ds
-  none-taken ts ds = record {
-    what = [];
-    many = refl;
-    each = after-none f (eachFrom f 0 (map mean (slice 0 count forms)));
-    added = none-added ts ds;
-    most = omega arith;
-    few = omega arith;
-    small = omega arith;
-    stay = omega arith;
-    noted = omega arith;
-  }
-
-module _ {A : Type 0} (f : A → Answer Brought) (mean : Form → A) (forms : List Form) (count : ℕ) where
-  pub none-texted : (ts ds out : List ℕ) → Texted f mean forms count 0 ts ds nothing ts ds out out
-  unfolding none-taken
-  none-texted ts ds out = record { taken = none-taken f mean forms count ts ds; text = nothing-written out 0 }
-
-stay-one : (b : Brought) → length (staying b) ≤ 1
-stay-one defining = omega arith
-stay-one dropped = omega arith
-stay-one (stays f) = omega arith
-stay-one (brings x es) = omega arith
-
-note-one : (i : ℕ) (b : Brought) → length (noteOf i b) ≤ 1
-note-one i defining = omega arith
-note-one i dropped = omega arith
-note-one i (stays f) = omega arith
-note-one i (brings x es) = omega arith
-
-module _ {A : Type 0} {f : A → Answer Brought} {mean : Form → A} {forms : List Form} {count i : ℕ} {ts₀ ds₀ : List ℕ} {t : Tally}
-    {ts ds : List ℕ} (g : Taken f mean forms count i ts₀ ds₀ t ts ds) where
-  module _ (d : Form) (h : i < count) (w : count ≤ length forms) where
-    next : map mean (slice i count forms) ≡ mean (getD forms i d) ∷ map mean (slice (suc i) count forms)
-    next = ap (map mean) (slice-cons i count forms d h w)
-
-    taken-next : {b : Brought} {u : Tally} {ts' ds' : List ℕ}
-        → f (mean (getD forms i d)) ≡ accepted b
-        → Adds b i t ts ds u ts' ds'
-        → Taken f mean forms count (suc i) ts₀ ds₀ u ts' ds'
-    taken-next {b} {u} {ts'} {ds'} e a =
-        record {
-          what = g .what ++ b ∷ [];
-          many = omega (arith, g .many, length-append (g .what) (b ∷ []));
-          each =
-              g .each
-              ∙ ap (λ (l : List A). after (g .what) (eachFrom f i l)) next
-              ∙ after-one f (g .what) i (mean (getD forms i d)) (map mean (slice (suc i) count forms)) b e;
-          added = one-added (g .added) (g .many) a;
-          most = omega arith;
-          few = omega (arith, g .few, a .few, a .terms .next);
-          small = omega (arith, g .small, a .small, a .ground);
-          stay = omega (arith, g .stay, a .stays, stay-one b);
-          noted = omega (arith, g .noted, a .dropped .next, note-one i b);
-        }
-
-    -- what one more prints
-    pub one-texted : {b : Brought} {u : Tally} {ts' ds' out₀ out out' : List ℕ}
-        → Written out₀ 0 (restOf 0 (gather staying (g .what))) out (t .ground)
-        → f (mean (getD forms i d)) ≡ accepted b
-        → Adds b i t ts ds u ts' ds'
-        → Written out (t .ground) (restOf (t .stays) (staying b)) out' (u .ground)
-        → Texted f mean forms count (i + 1) ts₀ ds₀ u ts' ds' out₀ out'
-    unfolding taken-next
-    one-texted {b} {u} {ts'} {ds'} {out₀} {out} {out'} v e a w =
-        let m : t .stays ≡ 0 + length (gather staying (g .what)) = omega (arith, g .added .stays) in
-        subst (λ (k : ℕ). Texted f mean forms count k ts₀ ds₀ u ts' ds' out₀ out') (sym (add-one i))
-        (record {
-          taken = taken-next e a;
-          text =
-              subst (λ (l : List ℕ). Written out₀ 0 l out' (u .ground))
-              (ap (λ (k : ℕ). restOf 0 (gather staying (g .what)) ++ restOf k (staying b)) m
-              ∙ sym (rest-append 0 (gather staying (g .what)) (staying b))
-              ∙ sym (ap (restOf 0) (staying-last b (g .what))))
-              (written-on v w);
-        })
-
-    pub fault-taken : (k : ℕ) → f (mean (getD forms i d)) ≡ refused k 0 → eachFrom f 0 (map mean (slice 0 count forms)) ≡ refused k i
-    fault-taken k e =
-        g .each
-        ∙ ap (λ (l : List A). after (g .what) (eachFrom f i l)) next
-        ∙ after-fault f (g .what) i (mean (getD forms i d)) (map mean (slice (suc i) count forms)) k e
-
-  pub all-taken : count ≤ i → eachFrom f 0 (map mean (slice 0 count forms)) ≡ accepted (g .what)
-  all-taken h =
-      let e : i ≡ count = omega (arith, g .most) in
-      g .each
-      ∙ ap (λ (k : ℕ). after (g .what) (eachFrom f i (map mean (slice k count forms)))) e
-      ∙ ap (λ (l : List Form). after (g .what) (eachFrom f i (map mean l))) (slice-empty count forms)
-      ∙ after-all f (g .what) i
-
-module _ {A : Type 0} {f : A → Answer Brought} {mean : Form → A} {forms : List Form} {count i : ℕ} {ts₀ ds₀ : List ℕ} {t : Tally}
-    {ts ds out₀ out : List ℕ} (g : Texted f mean forms count i ts₀ ds₀ t ts ds out₀ out) where
-  pub all-texted : count ≤ i → (bs : List Brought) → eachFrom f 0 (map mean (slice 0 count forms)) ≡ accepted bs
-      → Written out₀ 0 (restOf 0 (gather staying bs)) out (t .ground)
-  all-texted h bs e =
-      subst (λ (x : List Brought). Written out₀ 0 (restOf 0 (gather staying x)) out (t .ground)) (accepted-both (sym (all-taken (g .taken) h) ∙ e)) (g .text)
 
 -- what the first brings, and the others
 pub record First {A B : Type 0} (f : A → Answer B) (i : ℕ) (x : A) (xs : List A) (bs : List B) : Type 0 where

@@ -1,9 +1,9 @@
 -- What is known of a statement that was read, feature by feature.
 -- Assumes nothing.
-use Prim.Native.Nat.{ℕ, _<_, _≤_}
+use Prim.Native.Nat.{ℕ, _<_}
 use native.Mathlib.Omega.{arith}
-use mathlib.Core.Path.{_≡_, refl, _∙_, ap, sym}
-use mathlib.Core.Bool.{Bool, true, false, _&&_, false≢true}
+use mathlib.Core.Path.{_≡_, refl}
+use mathlib.Core.Bool.{Bool, true, false}
 use mathlib.Core.List.{List, [], _∷_}
 use denote.Enum.Declared.{tagOf}
 use types.Run.{OneOf, miss}
@@ -18,7 +18,7 @@ use Rattle.labels.specs.Label.{labelsOf}
 use Rattle.reading.specs.Statement as statement
 use Rattle.reading.specs.Statement.{Modes, allModes, modes, Operand, Operator}
 use Rattle.reading.specs.Parts.{partsOf, featureParts, operandPart}
-use Rattle.reading_laws.specs.WellFormed.{isPlace, noneTwice, upTo64, oneTo64, wellModes, wellPart, wellFormed}
+use Rattle.reading_laws.specs.WellFormed.{isPlace, noneTwice, oneTo64, wellModes, wellPart, wellFormed}
 use Rattle.reading_laws.proofs.Parts.{parts-well, few-labels}
 use Rattle.forms.specs.declared.Modes as formModes
 use Rattle.forms.specs.declared.Operand as formOperand

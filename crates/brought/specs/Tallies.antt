@@ -9,13 +9,11 @@ use Rattle.render.proofs.Pieces.{restOf}
 use Rattle.resolving.specs.Lists.{gather}
 use Rattle.resolving.specs.Brought.{Brought, defining, dropped, stays, brings}
 use Rattle.resolving.specs.Ground.{staying}
-use Rattle.resolving_laws.specs.Flat.{Term, termsFrom}
+use Rattle.resolving_laws.specs.Flat.{termsFrom}
 use Rattle.merging.specs.Packing.{termOf}
 use Rattle.brought.specs.declared.Tally.{Tally}
 use Rattle.brought.specs.declared.Step.{Step}
 use Rattle.brought.specs.declared.Step.the-variants as step
-use Rattle.brought.specs.declared.AllBrought.{AllBrought}
-use Rattle.brought.specs.declared.AllBrought.the-variants as all
 
 -- The index of one that is dropped.
 abbrev pub noteOf : ℕ → Brought → List ℕ
@@ -79,7 +77,3 @@ pub record AllBrings (a : Answer (List Brought)) (ts ds : List ℕ) (u : Tally) 
   pub brought : a ≡ accepted what
   pub added : Added what ts ds u ts' ds'
   pub small : u .ground ≤ 5120256
-
-unfoldable pub AllAs : Answer (List Brought) → List ℕ → List ℕ → List ℕ → List ℕ → AllBrought → Type 0
-AllAs a ts ds ts' ds' (all.Tally u) = AllBrings a ts ds u ts' ds'
-AllAs a ts ds ts' ds' (all.Refused r) = a ≡ refused (r .number) (r .place)

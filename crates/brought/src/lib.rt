@@ -1,4 +1,4 @@
-// What all statements of a text bring, taken in their order.
+// What the statement at an index brings, added to what those before it brought.
 ghost use mathlib.Core.Path.{_≡_};
 ghost use mathlib.Core.Bool.{false};
 ghost use mathlib.Core.List.{List};
@@ -9,28 +9,24 @@ ghost use Rattle.reading.specs.Statement.{Covariate};
 ghost use Rattle.forms.specs.Forms.{modesIn, opAs, operandIn, featureIn, statementIn};
 ghost use Rattle.parts.specs.Apart.{apart};
 ghost use Rattle.parts.specs.Meaning.{OperandFits, PartsFit};
-ghost use Rattle.resolving.specs.Brought.{bring as bring·spec, bringFeature, eachFrom};
+ghost use Rattle.resolving.specs.Brought.{bring as bring·spec, bringFeature};
 ghost use Rattle.resolving.specs.Handed.{handedContext};
 ghost use Rattle.context.specs.Lists.{Stands};
 ghost use Rattle.symbols.specs.Lets.{LetsFit};
 ghost use Rattle.operands.specs.Entries.{meaningIn};
-ghost use Rattle.space.specs.Space.{Whole, statementsIn};
-ghost use Rattle.space.specs.Fit.{Fit, FitAll};
+ghost use Rattle.space.specs.Fit.{Fit};
 ghost use Rattle.bringing.specs.Stays.{isCovariate, Short};
 ghost use Rattle.bringing.specs.Terms.{SmallForms};
-ghost use Rattle.brought.specs.Tallies.{Noted, BringAs, PrintsAs, NoneStays, AllAs};
-ghost use Rattle.brought.specs.Printed.{AllPrinted};
+ghost use Rattle.brought.specs.Tallies.{Noted, BringAs, PrintsAs, NoneStays};
 use bringing::Stay;
 use context::Layout;
 use forms::CovariateOp;
 use forms::Feature;
 use forms::Modes;
 use forms::Operand;
-use forms::Refusal;
 use forms::Statement;
 use labels::Keywords;
 use labels::Labels;
-use space::Space;
 use tokens::Classes;
 
 // How much the statements so far bring: how many terms, how many statements stay and how many bytes they have, and how many are dropped.
@@ -45,12 +41,6 @@ pub struct Tally {
 pub enum Step {
     Next(Tally),
     Refused(u8),
-}
-
-// What all make of it, or the first fault.
-pub enum AllBrought {
-    Tally(Tally),
-    Refused(Refusal),
 }
 
 // One more is dropped.
@@ -252,74 +242,4 @@ pub fn bring_one(
             ),
         },
     }
-}
-
-// What all statements bring: the terms, the indexes of those that are dropped, and the ground statements of those that stay, written where `out` has
-// room.
-pub fn bring_all(
-    text: &[u8],
-    classes: &Classes,
-    labels: &Labels,
-    keys: &Keywords,
-    block: &[u8],
-    lists: &[u32],
-    layout: Layout,
-    lets: &[u32],
-    n: usize,
-    space: Space,
-    terms: &mut [u32],
-    dropped: &mut [u8],
-    out: &mut [u8],
-) -> AllBrought
-    requires { ⌜ (now classes ≡ classTable) × (now labels ≡ labelTable) × (now keys ≡ keywordTable)
-        × Stands (now block) (now lists) layout × LetsFit (now text) (now lets) n
-        × Whole space × FitAll (now text) space ⌝ }
-    ensures { λ r. ⌜ AllAs (eachFrom (bring·spec (handedContext (now (block .entry)) (now (lists .entry)))
-        (meaningIn (now (text .entry)) (now (lets .entry)) n (handedContext (now (block .entry)) (now (lists .entry)))))
-        0 (statementsIn (now (text .entry)) space))
-        (now (terms .entry)) (now (dropped .entry)) (now (terms .exit)) (now (dropped .exit)) r ⌝ }
-    ensures { λ r. ⌜ AllPrinted (eachFrom (bring·spec (handedContext (now (block .entry)) (now (lists .entry)))
-        (meaningIn (now (text .entry)) (now (lets .entry)) n (handedContext (now (block .entry)) (now (lists .entry)))))
-        0 (statementsIn (now (text .entry)) space))
-        (now (out .entry)) (now (out .exit)) r ⌝ }
-{
-    let forms = space.forms;
-    let count = space.count;
-    let mut tally = Tally {
-        terms: 0,
-        stays: 0,
-        ground: 0,
-        dropped: 0,
-    };
-    let mut i = 0;
-    while i < count {
-        let form = forms[i];
-        let statement = form.statement;
-        match bring_one(
-            text,
-            classes,
-            labels,
-            keys,
-            block,
-            lists,
-            layout,
-            lets,
-            n,
-            i,
-            statement,
-            tally,
-            terms,
-            dropped,
-            out,
-        ) {
-            Step::Next(next) => {
-                tally = next;
-                i += 1;
-            }
-            Step::Refused(number) => {
-                return AllBrought::Refused(Refusal { number, place: i });
-            }
-        }
-    }
-    AllBrought::Tally(tally)
 }

@@ -1,4 +1,4 @@
--- What the statements of a list bring, taken in order: so many so far, and one more. (`Adding` says the same of statements that all stand in one array.)
+-- What the statements of a list bring, taken in order: so many so far, and one more.
 -- Assumes nothing.
 use Prim.Native.Nat.{ℕ, suc, _+_, _*_, _≤_}
 use native.Mathlib.Numerals.{add-one}
