@@ -7,7 +7,8 @@ use mathlib.Core.Bool.{Bool, true, false}
 use mathlib.Core.List.{List, [], _++_}
 use borrow.Author.Tests.{eq-eqb, ne-eqb, leb-true, leb-false}
 use lib.Dec.{leb}
-use lib.ListN.{length, getD, length-append, List·getD-eq-default}
+use lib.ListN.{length, take, getD, length-append, List·getD-eq-default}
+use lib.Seq.{length-take-le}
 use Rattle.reading.specs.Answer.{Answer, accepted, refused}
 use Rattle.writing.specs.Written.{Room}
 use Rattle.render.specs.Text.{jointOf}
@@ -17,15 +18,20 @@ use Rattle.context.specs.Lists.{Stands, namesIn}
 use Rattle.context.proofs.Pairs.{names-length}
 use Rattle.context.proofs.Meaning.{parameters-are, parameters-sound, sound-named}
 use Rattle.operands.specs.declared.Entries.{Entries}
-use Rattle.operands.specs.Picked.{chosen}
+use Rattle.operands.specs.Picked.{PickedAs}
 use Rattle.operands.specs.Entries.{entriesAs}
 
-module _ {a : Answer (List ℕ)} (e : Entries) (h : entriesAs e ≡ a) where
+-- what an operand answered, and the array that was lent for its indexes
+module _ {a : Answer (List ℕ)} (e : Entries) (is : List ℕ) (h : entriesAs e is ≡ a) where
   pub entries-refused : (e .fault ≡ 0 → ⊥) → a ≡ refused (e .fault) 0
   entries-refused n = sym h ∙ rw (ne-eqb (e .fault) 0 n) refl
 
-  pub entries-accepted : e .fault ≡ 0 → a ≡ accepted (chosen (e .list))
+  pub entries-accepted : e .fault ≡ 0 → a ≡ accepted (take (e .count) is)
   entries-accepted n = sym h ∙ rw (eq-eqb (e .fault) 0 n) refl
+
+-- there are as many as it says
+pub picked-many : {n : ℕ} (e : Entries) (is : List ℕ) → PickedAs n e is → length (take (e .count) is) ≡ e .count
+picked-many e is p = length-take-le (e .count) is (omega (arith, p .size, p .few))
 
 -- a name of the context has at most 32 bytes
 pub names-short : (b l : List ℕ) (y : Layout) → Stands b l y → (i : ℕ) → length (getD (handedContext b l .parameters) i []) ≤ 32

@@ -21,7 +21,7 @@ ghost use Rattle.resolving.specs.Lists.{placeIn, sameBytes};
 ghost use Rattle.resolving.specs.Context.{covariates as covariates·spec};
 ghost use Rattle.resolving.specs.Effects.{operatorNumber, optionalNumber};
 ghost use Rattle.resolving.specs.Brought.{isExplicit, bringFeature};
-ghost use Rattle.resolving.specs.Handed.{handedContext};
+ghost use Rattle.resolving.specs.Handed.{isHanded, handedContext};
 ghost use Rattle.context.specs.Lists.{Stands};
 ghost use Rattle.symbols.specs.Lets.{LetsFit};
 ghost use Rattle.operands.specs.Entries.{meaningIn};
@@ -139,17 +139,16 @@ fn is_covariate(text: &[u8], block: &[u8], lists: &[u32], layout: Layout, name: 
 }
 
 // A statement of parameters and modes: dropped where the parameters are fewer than `least`.
-fn stay_variables(
-    text: &[u8],
+fn stay_variables<'a>(
+    text: &'a [u8],
     classes: &Classes,
     labels: &Labels,
     keys: &Keywords,
     block: &[u8],
     lists: &[u32],
-    layout: Layout,
     lets: &[u32],
     n: usize,
-    star: &[u8],
+    star: &'a [u8],
     least: usize,
     keyword: usize,
     optional: bool,
@@ -161,31 +160,33 @@ fn stay_variables(
     out: &mut [u8],
     at: usize,
 ) -> Stay
-    requires { ⌜ (now classes ≡ classTable) × (now labels ≡ labelTable) × (now keys ≡ keywordTable) × Stands (now block) (now lists) layout
-        × LetsFit (now text) (now lets) n × OperandFits (now text) parameters × (keyword < length keywords) × (at ≤ 4294967296) ⌝ }
+    requires { ⌜ (now classes ≡ classTable) × (now labels ≡ labelTable) × (now keys ≡ keywordTable)
+        × (isHanded (now block) (now lists) ≡ true) × LetsFit (now text) (now lets) n × OperandFits (now text) parameters
+        × (keyword < length keywords) × (at ≤ 4294967296) ⌝ }
     ensures { λ r. ⌜ VariablesAs (now (text .entry)) (now (block .entry)) (now (lists .entry)) (now (lets .entry)) n (now (star .entry)) least
         keyword optional parameters family modes named before (now (out .entry)) at (now (out .exit)) r ⌝ }
 {
+    let mut list = [0; 64];
     let entries = operands::parameters_of(
         text,
         classes,
         block,
         lists,
-        layout,
         lets,
         n,
         star,
         parameters,
+        &mut list,
     );
     if entries.fault != operands::NO_FAULT {
         return Stay::Refused(entries.fault);
     }
-    let list = entries.list;
-    if list.count < least {
+    if entries.count < least {
         return Stay::Dropped;
     }
     let next = render::put_joint(before, out, at);
     let whole = grounding::whole_modes(family, modes);
+    let layout = context::read_layout(lists);
     Stay::Next(grounding::put_variables(
         block,
         lists,
@@ -194,7 +195,7 @@ fn stay_variables(
         keyword,
         optional,
         layout.parameters,
-        list,
+        &list[..entries.count],
         family,
         whole,
         named,
@@ -243,7 +244,6 @@ pub fn ground_feature(
             keys,
             block,
             lists,
-            layout,
             lets,
             n,
             b"PK",
@@ -269,7 +269,6 @@ pub fn ground_feature(
             keys,
             block,
             lists,
-            layout,
             lets,
             n,
             b"IIV",
@@ -295,7 +294,6 @@ pub fn ground_feature(
             keys,
             block,
             lists,
-            layout,
             lets,
             n,
             b"IIV",
@@ -377,33 +375,42 @@ pub fn bring_covariate(
         (Covariate optional (operandIn (now (text .entry)) parameters) (operandIn (now (text .entry)) covariates) (modesIn effects) (opAs op)))
         index (now (terms .entry)) at (now (terms .exit)) r ⌝ }
 {
+    let mut first = [0; 64];
     let own = operands::parameters_of(
         text,
         classes,
         block,
         lists,
-        layout,
         lets,
         n,
         b"PK",
         parameters,
+        &mut first,
     );
     if own.fault != operands::NO_FAULT {
         return Stay::Refused(own.fault);
     }
-    let others = operands::covariates_of(text, classes, block, lists, layout, lets, n, covariates);
+    let mut second = [0; 64];
+    let others = operands::covariates_of(
+        text,
+        classes,
+        block,
+        lists,
+        lets,
+        n,
+        covariates,
+        &mut second,
+    );
     if others.fault != operands::NO_FAULT {
         return Stay::Refused(others.fault);
     }
-    let first = own.list;
-    let second = others.list;
-    if first.count == 0 {
+    if own.count == 0 {
         return Stay::Dropped;
     }
-    if second.count == 0 {
+    if others.count == 0 {
         return Stay::Dropped;
     }
-    if terms::any_against(block, lists, layout, second, effects) {
+    if terms::any_against(block, lists, layout, &second[..others.count], effects) {
         return Stay::Refused(WRONG_KIND);
     }
     let head = head_of(index, is_named(parameters), op, optional);
@@ -411,8 +418,8 @@ pub fn bring_covariate(
         block,
         lists,
         layout,
-        first,
-        second,
+        &first[..own.count],
+        &second[..others.count],
         effects,
         head,
         terms,

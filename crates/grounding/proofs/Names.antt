@@ -1,12 +1,12 @@
 -- The names of a list at indexes, one after the other: the bytes of those that are left.
 -- Assumes nothing.
-use Prim.Native.Nat.{ℕ, suc, _+_, _-_, _≤_, _<_}
+use Prim.Native.Nat.{ℕ, suc, _+_, _-_, _<_}
 use mathlib.Core.Path.{_≡_, refl, _∙_, ap, sym}
 use mathlib.Core.List.{List, [], _∷_, _++_, map}
 use native.Mathlib.Numerals.{add-one}
 use native.Mathlib.Omega.{arith}
-use lib.ListN.{length, getD, length-map}
-use lib.Seq.{slice, slice-cons, slice-empty, length-slice}
+use lib.ListN.{length, getD, drop, length-map, length-drop}
+use lib.Seq.{drop-cons, drop-length}
 use Rattle.part_text.specs.Parts.{behindEntry}
 use Rattle.text.specs.Bytes.{bytes}
 use Rattle.tokens.specs.Spelling.{spellAll}
@@ -27,39 +27,39 @@ name-by-name list i is =
     ∙ ap (λ (w : List ℕ). w ++ (behindEntry (suc (length (map (shapeAt list) is))) ++ listedBytes list is)) (spell-name (plainName (getD list i [])))
     ∙ ap (λ (n : ℕ). getD list i [] ++ (behindEntry (suc n) ++ listedBytes list is)) (length-map is (shapeAt list))
 
-module _ (list : List (List ℕ)) (xs : List ℕ) (i n : ℕ) {before : List ℕ} {at : ℕ} {all now : List ℕ} {next : ℕ} where
-  pub none-left : i ≡ n → Going before at all now next (listedBytes list (slice i n xs)) → Written before at all now next
-  none-left e g = no-more (told (ap (λ (k : ℕ). listedBytes list (slice k n xs)) e ∙ ap (listedBytes list) (slice-empty n xs)) g)
+module _ (list : List (List ℕ)) (xs : List ℕ) (i : ℕ) {before : List ℕ} {at : ℕ} {all now : List ℕ} {next : ℕ} where
+  pub none-left : i ≡ length xs → Going before at all now next (listedBytes list (drop i xs)) → Written before at all now next
+  none-left e g = no-more (told (ap (λ (k : ℕ). listedBytes list (drop k xs)) e ∙ ap (listedBytes list) (drop-length xs)) g)
 
-  module _ (h : i < n) (w : n ≤ length xs) (g : Going before at all now next (listedBytes list (slice i n xs))) where
+  module _ (h : i < length xs) (g : Going before at all now next (listedBytes list (drop i xs))) where
     abbrev first : List ℕ
     first = getD list (getD xs i 0) []
 
     abbrev others : List ℕ
-    others = listedBytes list (slice (i + 1) n xs)
+    others = listedBytes list (drop (i + 1) xs)
 
-    left : suc (length (slice (i + 1) n xs)) ≡ n - i
-    left = omega (arith, length-slice (i + 1) n xs w)
+    left : suc (length (drop (i + 1) xs)) ≡ length xs - i
+    left = omega (arith, length-drop (i + 1) xs)
 
-    at-name : Going before at all now next (first ++ (behindEntry (n - i) ++ others))
+    at-name : Going before at all now next (first ++ (behindEntry (length xs - i) ++ others))
     at-name =
         told
-        (ap (listedBytes list) (slice-cons i n xs 0 h w ∙ ap (λ (k : ℕ). getD xs i 0 ∷ slice k n xs) (sym (add-one i)))
-        ∙ name-by-name list (getD xs i 0) (slice (i + 1) n xs)
+        (ap (listedBytes list) (drop-cons xs i 0 h ∙ ap (λ (k : ℕ). getD xs i 0 ∷ drop k xs) (sym (add-one i)))
+        ∙ name-by-name list (getD xs i 0) (drop (i + 1) xs)
         ∙ ap (λ (k : ℕ). first ++ (behindEntry k ++ others)) left)
         g
 
     pub name-room : Room at all → Room next (getD list (getD xs i 0) [])
-    name-room r = room-first first (behindEntry (n - i) ++ others) r at-name
+    name-room r = room-first first (behindEntry (length xs - i) ++ others) r at-name
 
     module _ {now' : List ℕ} {next' : ℕ} (v : Written now next (getD list (getD xs i 0) []) now' next') where
-      pub comma-room : Room at all → Room next' (behindEntry (n - i))
-      comma-room r = room-first (behindEntry (n - i)) others r (further at-name v)
+      pub comma-room : Room at all → Room next' (behindEntry (length xs - i))
+      comma-room r = room-first (behindEntry (length xs - i)) others r (further at-name v)
 
       pub name-put :
           {now'' : List ℕ} {next'' : ℕ}
-          → Written now' next' (behindEntry (n - i)) now'' next''
-          → Going before at all now'' next'' (listedBytes list (slice (i + 1) n xs))
+          → Written now' next' (behindEntry (length xs - i)) now'' next''
+          → Going before at all now'' next'' (listedBytes list (drop (i + 1) xs))
       name-put u = further (further at-name v) u
 
 -- one name stands bare, all others in their brackets

@@ -17,7 +17,7 @@ ghost use Rattle.writing.specs.Written.{Room, Written};
 ghost use Rattle.resolving.specs.Brought.{whole, listed};
 ghost use Rattle.resolving.specs.Handed.{handedContext};
 ghost use Rattle.context.specs.Lists.{Sound, Stands, namesIn, covariatesOf};
-ghost use Rattle.operands.specs.Picked.{chosen, Picks};
+ghost use Rattle.operands.specs.Picked.{Indexes};
 ghost use Rattle.grounding.specs.Whole.{WholePart, WholeParts};
 ghost use Rattle.grounding.specs.Listed.{listedBytes, eitherBytes, variableBytes};
 ghost use Rattle.grounding.specs.Groups.{groupStatement, signBytes};
@@ -27,7 +27,6 @@ use forms::Modes;
 use labels::Family;
 use labels::Keywords;
 use labels::Labels;
-use operands::Picked;
 use parts::Part;
 use parts::Parts;
 use tokens::Classes;
@@ -93,24 +92,22 @@ fn put_names_at(
     block: &[u8],
     lists: &[u32],
     names: Names,
-    list: Picked,
+    list: &[u8],
     out: &mut [u8],
     at: usize,
 ) -> usize
-    requires { ⌜ Sound (now block) (now lists) names × Picks (names .count) list
-        × Room at (listedBytes (namesIn (now block) (now lists) names) (chosen list)) ⌝ }
+    requires { ⌜ Sound (now block) (now lists) names × Indexes (names .count) (now list)
+        × Room at (listedBytes (namesIn (now block) (now lists) names) (now list)) ⌝ }
     ensures { λ r. ⌜ Written (now (out .entry)) at
-        (listedBytes (namesIn (now (block .entry)) (now (lists .entry)) names) (chosen list))
+        (listedBytes (namesIn (now (block .entry)) (now (lists .entry)) names) (now (list .entry)))
         (now (out .exit)) r ⌝ }
 {
-    let indexes = list.indexes;
-    let count = list.count;
     let mut i = 0;
     let mut next = at;
-    while i < count {
-        let name = context::name_at(block, lists, names, indexes[i] as usize);
+    while i < list.len() {
+        let name = context::name_at(block, lists, names, list[i] as usize);
         next = writing::put_all(out, next, name);
-        next = part_text::put_comma(out, next, count - i);
+        next = part_text::put_comma(out, next, list.len() - i);
         i += 1;
     }
     next
@@ -121,17 +118,17 @@ fn put_listed(
     block: &[u8],
     lists: &[u32],
     names: Names,
-    list: Picked,
+    list: &[u8],
     out: &mut [u8],
     at: usize,
 ) -> usize
-    requires { ⌜ Sound (now block) (now lists) names × Picks (names .count) list
-        × Room at (spellAll (operandShapes (listed (namesIn (now block) (now lists) names) (chosen list)))) ⌝ }
+    requires { ⌜ Sound (now block) (now lists) names × Indexes (names .count) (now list)
+        × Room at (spellAll (operandShapes (listed (namesIn (now block) (now lists) names) (now list)))) ⌝ }
     ensures { λ r. ⌜ Written (now (out .entry)) at
-        (spellAll (operandShapes (listed (namesIn (now (block .entry)) (now (lists .entry)) names) (chosen list))))
+        (spellAll (operandShapes (listed (namesIn (now (block .entry)) (now (lists .entry)) names) (now (list .entry)))))
         (now (out .exit)) r ⌝ }
 {
-    if list.count == 1 {
+    if list.len() == 1 {
         return put_names_at(block, lists, names, list, out, at);
     }
     let first = writing::put(out, at, b'[');
@@ -145,17 +142,17 @@ fn put_either(
     lists: &[u32],
     labels: &Labels,
     names: Names,
-    list: Picked,
+    list: &[u8],
     family: Family,
     modes: Modes,
     named: bool,
     out: &mut [u8],
     at: usize,
 ) -> usize
-    requires { ⌜ (now labels ≡ labelTable) × Sound (now block) (now lists) names × Picks (names .count) list
-        × Room at (eitherBytes (namesIn (now block) (now lists) names) (chosen list) family (modesIn modes) named) ⌝ }
+    requires { ⌜ (now labels ≡ labelTable) × Sound (now block) (now lists) names × Indexes (names .count) (now list)
+        × Room at (eitherBytes (namesIn (now block) (now lists) names) (now list) family (modesIn modes) named) ⌝ }
     ensures { λ r. ⌜ Written (now (out .entry)) at
-        (eitherBytes (namesIn (now (block .entry)) (now (lists .entry)) names) (chosen list) family (modesIn modes) named)
+        (eitherBytes (namesIn (now (block .entry)) (now (lists .entry)) names) (now (list .entry)) family (modesIn modes) named)
         (now (out .exit)) r ⌝ }
 {
     if named {
@@ -173,18 +170,18 @@ pub fn put_variables(
     keyword: usize,
     optional: bool,
     names: Names,
-    list: Picked,
+    list: &[u8],
     family: Family,
     modes: Modes,
     named: bool,
     out: &mut [u8],
     at: usize,
 ) -> usize
-    requires { ⌜ (now labels ≡ labelTable) × (now keys ≡ keywordTable) × Sound (now block) (now lists) names × Picks (names .count) list
+    requires { ⌜ (now labels ≡ labelTable) × (now keys ≡ keywordTable) × Sound (now block) (now lists) names × Indexes (names .count) (now list)
         × (keyword < length keywords)
-        × Room at (variableBytes keyword optional (namesIn (now block) (now lists) names) (chosen list) family (modesIn modes) named) ⌝ }
+        × Room at (variableBytes keyword optional (namesIn (now block) (now lists) names) (now list) family (modesIn modes) named) ⌝ }
     ensures { λ r. ⌜ Written (now (out .entry)) at
-        (variableBytes keyword optional (namesIn (now (block .entry)) (now (lists .entry)) names) (chosen list) family (modesIn modes) named)
+        (variableBytes keyword optional (namesIn (now (block .entry)) (now (lists .entry)) names) (now (list .entry)) family (modesIn modes) named)
         (now (out .exit)) r ⌝ }
 {
     let inside = statement_text::put_head(keys, keyword, optional, out, at);

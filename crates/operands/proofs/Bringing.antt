@@ -12,9 +12,10 @@ use Rattle.resolving.specs.Lists.{placeIn, sameBytes}
 use Rattle.resolving.specs.Faults.{unknownName}
 use Rattle.resolving.specs.Operands.{held}
 use Rattle.symbols.specs.Brings.{broughtBy}
-use Rattle.operands.specs.Picked.{chosen, withIndex, Whole, Picks}
-use Rattle.operands.specs.declared.Picked.{Picked}
-use Rattle.operands.proofs.Holding.{held-one-more, held-missing, held-below, picks-of}
+use Rattle.resolving_laws.proofs.All.{All}
+use Rattle.operands.specs.Picked.{withIndex, PickedAs}
+use Rattle.operands.specs.declared.Entries.{Entries}
+use Rattle.operands.proofs.Holding.{held-one-more, held-missing, held-below, picked-of}
 
 module _ (f : ℕ → List (List ℕ)) where
   -- what the first so many bring is what fewer of them bring, and more
@@ -43,43 +44,50 @@ module _ (f : ℕ → List (List ℕ)) where
   one-later i = ap (broughtBy f) (add-one i)
 
 module _ (list : List (List ℕ)) (f : ℕ → List (List ℕ)) where
-  pub record HeldSoFar (p : Picked) (i : ℕ) : Type 0 where
-    pub whole : Whole p
-    pub most : p .count ≤ i
-    pub so-far : held list (accepted (broughtBy f i)) ≡ accepted (chosen p)
+  -- so many indexes stand in the array, and are those of what the first so many entries brought
+  pub record HeldSoFar (is : List ℕ) (n i : ℕ) : Type 0 where
+    pub size : length is ≡ 64
+    pub few : n ≤ 64
+    pub most : n ≤ i
+    pub so-far : held list (accepted (broughtBy f i)) ≡ accepted (take n is)
 
-  pub brings-none : (p : Picked) → Whole p → p .count ≡ 0 → HeldSoFar p 0
+  pub brings-none : (is : List ℕ) → length is ≡ 64 → HeldSoFar is 0 0
   unfolding broughtBy
-  brings-none p w e =
-      record { whole = w; most = omega arith; so-far = ap (λ (n : ℕ). accepted (take n (p .indexes))) (sym e) }
+  brings-none is e = record { size = e; few = omega arith; most = omega arith; so-far = refl }
 
-  module _ (p : Picked) (i : ℕ) (g : HeldSoFar p i) where
-    pub brings-picks : Picks (length list) p
-    brings-picks = picks-of (length list) p (g .whole) (held-below list (broughtBy f i) (chosen p) (g .so-far))
+  module _ (is : List ℕ) (n i : ℕ) (g : HeldSoFar is n i) where
+    pub brings-picked : (k : ℕ) → length list ≡ k → (r : Entries) → r .count ≡ n → PickedAs k r is
+    brings-picked k e r q =
+        picked-of k r is (g .size) (omega (arith, q, g .few))
+        (subst (λ (m : ℕ). All (λ j. j < m) (take (r .count) is)) e
+        (held-below list (broughtBy f i) (take (r .count) is) (g .so-far ∙ ap (λ (m : ℕ). accepted (take m is)) (sym q))))
 
     pub brings-pair :
-        (q : Picked) (w : List ℕ) (j : ℕ)
+        (js : List ℕ) (m : ℕ) (w : List ℕ) (j : ℕ)
         → f i ≡ w ∷ []
         → placeIn (sameBytes w) list ≡ some j
-        → Whole q
-        → chosen q ≡ withIndex (chosen p) j
-        → q .count ≤ p .count + 1
-        → HeldSoFar q (i + 1)
-    brings-pair q w j e h v k n =
+        → length js ≡ 64
+        → take m js ≡ withIndex (take n is) j
+        → m ≤ n + 1
+        → n < 64
+        → HeldSoFar js m (i + 1)
+    brings-pair js m w j e h v k l room =
         record {
-          whole = v;
-          most = omega (arith, g .most, n);
+          size = v;
+          few = omega (arith, l, room);
+          most = omega (arith, g .most, l);
           so-far =
               ap (λ (vs : List (List ℕ)). held list (accepted vs))
               (one-later f i ∙ ap (λ (l : List (List ℕ)). broughtBy f i ++ l) e)
-              ∙ held-one-more list (broughtBy f i) (chosen p) (g .so-far) w j h
+              ∙ held-one-more list (broughtBy f i) (take n is) (g .so-far) w j h
               ∙ ap accepted (sym k);
         }
 
-    pub brings-nothing : f i ≡ [] → HeldSoFar p (i + 1)
+    pub brings-nothing : f i ≡ [] → HeldSoFar is n (i + 1)
     brings-nothing e =
         record {
-          whole = g .whole;
+          size = g .size;
+          few = g .few;
           most = omega (arith, g .most);
           so-far =
               ap (λ (vs : List (List ℕ)). held list (accepted vs))
@@ -87,16 +95,16 @@ module _ (list : List (List ℕ)) (f : ℕ → List (List ℕ)) where
               ∙ g .so-far;
         }
 
-    pub brings-missing : (w : List ℕ) (n : ℕ) → i < n → f i ≡ w ∷ [] → placeIn (sameBytes w) list ≡ none
-        → refused unknownName 0 ≡ held list (accepted (broughtBy f n))
-    brings-missing w n h e q =
-        let z : n ≡ (n - (i + 1)) + (i + 1) = omega (arith, h) in
-        let r = later f (n - (i + 1)) (i + 1) n z in
-        sym (held-missing list (broughtBy f i) (chosen p) (g .so-far) w (r .more) q)
+    pub brings-missing : (w : List ℕ) (m : ℕ) → i < m → f i ≡ w ∷ [] → placeIn (sameBytes w) list ≡ none
+        → refused unknownName 0 ≡ held list (accepted (broughtBy f m))
+    brings-missing w m h e q =
+        let z : m ≡ (m - (i + 1)) + (i + 1) = omega (arith, h) in
+        let r = later f (m - (i + 1)) (i + 1) m z in
+        sym (held-missing list (broughtBy f i) (take n is) (g .so-far) w (r .more) q)
         ∙ ap (λ (vs : List (List ℕ)). held list (accepted vs))
         (sym (r .are
         ∙ ap (λ (l : List (List ℕ)). l ++ r .more) (one-later f i ∙ ap (λ (l : List (List ℕ)). broughtBy f i ++ l) e)
         ∙ append-assoc (broughtBy f i) (w ∷ []) (r .more)))
 
-    pub brings-end : (n : ℕ) → i ≡ n → accepted (chosen p) ≡ held list (accepted (broughtBy f n))
-    brings-end n e = sym (g .so-far) ∙ ap (λ (k : ℕ). held list (accepted (broughtBy f k))) e
+    pub brings-end : (m : ℕ) → i ≡ m → accepted (take n is) ≡ held list (accepted (broughtBy f m))
+    brings-end m e = sym (g .so-far) ∙ ap (λ (k : ℕ). held list (accepted (broughtBy f k))) e

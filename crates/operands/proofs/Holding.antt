@@ -1,15 +1,15 @@
 -- Names held to a list one after the other: what is held so far, and one more; and indexes that are held are those of entries.
 -- Assumes nothing.
-use mathlib.Core.Path.{_≡_, refl, sym, _∙_, ap, subst}
+use mathlib.Core.Path.{_≡_, refl, sym, _∙_, ap}
 use mathlib.Core.Bool.{Bool, cond}
 use mathlib.Core.List.{List, [], _∷_, _++_}
 use mathlib.Core.Option.{Option, some, none}
-use Prim.Native.Nat.{ℕ, zero, suc, _<_}
+use Prim.Native.Nat.{ℕ, zero, suc, _≤_, _<_}
 use native.Mathlib.Omega.{arith}
 use borrow.Author.Tests.{eqb-true}
 use lib.Dec.{eqb}
-use lib.ListN.{length, getD}
-use lib.Seq.{length-take-le, getD-take}
+use lib.ListN.{length, take, getD}
+use lib.Seq.{length-take-le}
 use Rattle.reading.specs.Answer.{Answer, accepted, refused, _>>=_}
 use Rattle.reading_laws.specs.WellFormed.{given}
 use Rattle.reading_laws.proofs.Giving.{value-given}
@@ -22,8 +22,8 @@ use Rattle.resolving_laws.proofs.Runs.{any-firsts}
 use Rattle.resolving_laws.proofs.Passed.{refused≢accepted}
 use Rattle.resolving_laws.proofs.Entries.{held-gives}
 use Rattle.resolving_laws.proofs.Fewness.{place-below}
-use Rattle.operands.specs.Picked.{chosen, withIndex, Whole, Picks}
-use Rattle.operands.specs.declared.Picked.{Picked}
+use Rattle.operands.specs.Picked.{withIndex, PickedAs}
+use Rattle.operands.specs.declared.Entries.{Entries}
 
 value-of : {A : Type 0} {x y : A} → accepted x ≡ accepted y → x ≡ y
 value-of e = cc
@@ -113,13 +113,8 @@ all-at finished k d h = absurd (omega arith)
 all-at (also p r) zero d h = p
 all-at (also p r) (suc k) d h = all-at r k d (omega arith)
 
-pub picks-of : (n : ℕ) (p : Picked) → Whole p → All (λ i. i < n) (chosen p) → Picks n p
-picks-of n p w a =
-    record {
-      size = w .size;
-      few = w .few;
-      below =
-          λ k h.
-          subst (λ (i : ℕ). i < n) (getD-take (p .count) (p .indexes) k 0 h)
-          (all-at a k 0 (omega (arith, length-take-le (p .count) (p .indexes) (omega (arith, w .size, w .few)), h)));
-    }
+-- indexes in an array, as many as are answered, that are below a number
+pub picked-of : (n : ℕ) (r : Entries) (is : List ℕ) → length is ≡ 64 → r .count ≤ 64 → All (λ i. i < n) (take (r .count) is) → PickedAs n r is
+picked-of n r is size few a =
+    let l : length (take (r .count) is) ≡ r .count = length-take-le (r .count) is (omega (arith, size, few)) in
+    record { size = size; few = few; indexes = record { few = omega (arith, l, few); below = λ k h. all-at a k 0 h } }

@@ -1,17 +1,17 @@
--- What an operand stands for is what the definition looks up, in the context that was handed over; and what is answered of it.
+-- What an operand stands for is what the definition looks up, in the context that was handed over; and the list that it is held to.
 -- Assumes nothing.
 use mathlib.Core.Path.{_≡_, refl, sym, _∙_, ap, subst}
-use mathlib.Core.Bool.{true, false, cond}
+use mathlib.Core.Bool.{Bool, true, false, cond}
 use mathlib.Core.List.{List, [], _∷_, map}
-use Prim.Native.Nat.{ℕ}
+use Prim.Native.Nat.{ℕ, _<_}
 use native.Mathlib.Omega.{arith}
-use lib.Dec.{eqb}
+use lib.ListN.{length, take}
 use Rattle.reading.specs.Statement as statement
-use Rattle.reading.specs.Answer.{Answer, accepted, refused}
-use Rattle.resolving.specs.Context.{Context, covariates}
-use Rattle.resolving.specs.Faults.{unknownSymbol, unknownName}
+use Rattle.reading.specs.Answer.{Answer, accepted}
+use Rattle.resolving.specs.Context.{Context}
 use Rattle.resolving.specs.Handed.{handedContext}
 use Rattle.resolving.specs.Operands.{known, namesOf, held}
+use Rattle.resolving_laws.proofs.All.{All, finished}
 use Rattle.forms.specs.declared.Name.{Name}
 use Rattle.forms.specs.declared.Items.{Items}
 use Rattle.forms.specs.declared.Operand.{Operand}
@@ -19,44 +19,37 @@ use Rattle.forms.specs.declared.Operand.the-variants as operand
 use Rattle.forms.specs.Items.{nameIn, itemsIn}
 use Rattle.forms.specs.Forms.{operandIn}
 use Rattle.context.specs.declared.Layout.{Layout}
-use Rattle.context.specs.Lists.{namesIn, Stands, covariatesOf}
-use Rattle.context.proofs.Meaning.{parameters-are, covariates-are}
+use Rattle.context.specs.Lists.{namesIn, Sound, Stands, covariatesOf}
+use Rattle.context.proofs.Meaning.{parameters-sound, covariates-sound, parameters-are, covariates-are}
 use Rattle.symbols.specs.declared.Source.the-variants.{Values, Covariates}
 use Rattle.symbols.specs.declared.Looked.{Looked}
 use Rattle.symbols.specs.declared.Looked.the-variants.{Names}
 use Rattle.symbols.specs.Sources.{lookedAs, Means}
 use Rattle.symbols.proofs.Sources.{stands-marked}
-use Rattle.operands.specs.declared.Picked.{Picked}
-use Rattle.operands.specs.declared.Held.{Held}
 use Rattle.operands.specs.declared.Entries.{Entries}
-use Rattle.operands.specs.Picked.{chosen, Whole, Picks, heldAs}
-use Rattle.operands.specs.Entries.{entriesAs, meaningIn, StandsFor, parameterNames, covariateNames}
+use Rattle.operands.specs.Picked.{PickedAs}
+use Rattle.operands.specs.Entries.{targetOf, meaningIn, StandsFor, operandNames, parametersIn, covariatesIn}
+use Rattle.operands.proofs.Holding.{picked-of}
 
--- nothing is picked of any list
-pub none-picks : (n : ℕ) (p : Picked) → Whole p → p .count ≡ 0 → Picks n p
-none-picks n p w e = record { size = w .size; few = w .few; below = λ k h. absurd (omega (arith, e, h)) }
-
--- what is answered of a symbol that is unknown, and of a name that is missing or not
-pub unknown-as : (e : Entries) → e .fault ≡ unknownSymbol → entriesAs e ≡ refused unknownSymbol 0
-unknown-as e f = ap (λ (n : ℕ). cond (eqb n 0) (accepted (chosen (e .list))) (refused n 0)) f
-
-pub missing-as : (h : Held) → h .missing ≡ true → heldAs h ≡ refused unknownName 0
-missing-as h m = rw m
-
-pub held-as : (h : Held) → h .missing ≡ false → heldAs h ≡ accepted (chosen (h .list))
-held-as h m = rw m
+-- where none are answered, an array has the indexes of any list
+pub none-picked : (n : ℕ) (r : Entries) (is : List ℕ) → length is ≡ 64 → r .count ≡ 0 → PickedAs n r is
+none-picked n r is size e = picked-of n r is size (omega (arith, e)) (subst (λ (k : ℕ). All (λ i. i < n) (take k is)) (sym e) finished)
 
 -- an operand as the definition has it
 module _ (s l : List ℕ) (n : ℕ) (y : Layout) where
-  pub star-stands : (star : List ℕ) (r : Looked)
-      → Means s y r (λ c. meaningIn s l n c star)
-      → StandsFor s y r (parameterNames s l n star operand.Wildcard)
-  unfolding operandIn
-  star-stands star r h c m = ap known (h c m)
+  -- `*`: its word is looked up, or it is every covariate
+  module _ (star : List ℕ) (every : Bool) where
+    pub star-stands : (w : List ℕ) (r : Looked)
+        → every ≡ false
+        → w ≡ star
+        → Means s y r (λ c. meaningIn s l n c w)
+        → StandsFor s y r (operandNames s l n star every operand.Wildcard)
+    unfolding operandIn
+    star-stands w r e q h c m = ap known (h c m ∙ ap (meaningIn s l n c) q) ∙ rw e
 
-  pub every-stands : StandsFor s y (Names Covariates) (covariateNames s l n operand.Wildcard)
-  unfolding operandIn
-  every-stands c m = refl
+    pub every-stands : every ≡ true → StandsFor s y (Names Covariates) (operandNames s l n star every operand.Wildcard)
+    unfolding operandIn
+    every-stands e c m = rw e
 
   -- the symbol's word as it was spelled
   pub word-stands : (star : Context → Answer (List (List ℕ))) (x : Name) (w : List ℕ) (r : Looked)
@@ -84,21 +77,20 @@ pub stands-same : (s : List ℕ) (y : Layout) (r : Looked) (f : Operand → Cont
 stands-same s y r f e h = subst (λ (x : Operand). StandsFor s y r (f x)) (sym e) h
 
 module _ (b r : List ℕ) (y : Layout) (st : Stands b r y) where
-  -- what is looked up, held to a list of the context
-  module _ (s : List ℕ) (f : Context → Answer (List (List ℕ))) (k : Looked) (h : StandsFor s y k f) where
-    looked-held : (list : List (List ℕ)) → held list (known (lookedAs (handedContext b r) s k)) ≡ held list (f (handedContext b r))
-    looked-held list = ap (held list) (h (handedContext b r) (stands-marked b r y st))
+  -- the list that names are held to
+  pub target-sound : (every : Bool) → Sound b r (targetOf y every)
+  target-sound true = covariates-sound b r y st
+  target-sound false = parameters-sound b r y st
 
-    pub parameters-held :
-        held (namesIn b r (y .parameters)) (known (lookedAs (handedContext b r) s k))
-        ≡ held (handedContext b r .parameters) (f (handedContext b r))
-    parameters-held =
-        looked-held (namesIn b r (y .parameters))
-        ∙ ap (λ (list : List (List ℕ)). held list (f (handedContext b r))) (sym (parameters-are b r y st))
-
-    pub covariates-held :
-        held (namesIn b r (covariatesOf y)) (known (lookedAs (handedContext b r) s k))
-        ≡ held (covariates (handedContext b r)) (f (handedContext b r))
-    covariates-held =
-        looked-held (namesIn b r (covariatesOf y))
-        ∙ ap (λ (list : List (List ℕ)). held list (f (handedContext b r))) (sym (covariates-are b r y st))
+  -- what is looked up, held to that list
+  pub operand-held :
+      (s l : List ℕ) (n : ℕ) (star : List ℕ) (every : Bool) (o : Operand) (k : Looked)
+      → StandsFor s y k (operandNames s l n star every o)
+      → held (namesIn b r (targetOf y every)) (known (lookedAs (handedContext b r) s k))
+      ≡ cond every (covariatesIn s l n b r o) (parametersIn s l n b r star o)
+  operand-held s l n star true o k h =
+      ap (held (namesIn b r (covariatesOf y))) (h (handedContext b r) (stands-marked b r y st))
+      ∙ ap (λ (list : List (List ℕ)). held list (operandNames s l n star true o (handedContext b r))) (sym (covariates-are b r y st))
+  operand-held s l n star false o k h =
+      ap (held (namesIn b r (y .parameters))) (h (handedContext b r) (stands-marked b r y st))
+      ∙ ap (λ (list : List (List ℕ)). held list (operandNames s l n star false o (handedContext b r))) (sym (parameters-are b r y st))

@@ -1,22 +1,23 @@
 // An operand as indexes of the context's entries. "Each resolved list keeps first occurrences. Each name in one, written or brought by a symbol
-// or `*`, is held by 15 to the list that written names are held to there."
+// or `*`, is held by 15 to the list that written names are held to there." The indexes stand in an array that the caller lends.
 ghost use mathlib.Core.Path.{_≡_};
+ghost use mathlib.Core.Bool.{true, cond};
 ghost use mathlib.Core.List.{map};
 ghost use Prim.Native.Nat.{_+_, _≤_, _<_};
 ghost use lib.ListN.{length, take};
 ghost use Rattle.tokens.specs.Class.{classTable};
 ghost use Rattle.reading.specs.Answer.{accepted};
 ghost use Rattle.resolving.specs.Operands.{held};
-ghost use Rattle.resolving.specs.Handed.{handedContext};
+ghost use Rattle.resolving.specs.Handed.{isHanded};
 ghost use Rattle.forms.specs.Items.{itemsIn};
 ghost use Rattle.forms.specs.Fits.{Listed};
 ghost use Rattle.parts.specs.Meaning.{OperandFits};
-ghost use Rattle.context.specs.Lists.{namesIn, Sound, Stands, covariatesOf};
+ghost use Rattle.context.specs.Lists.{namesIn, Sound, Stands, covariatesOf, layoutOf};
 ghost use Rattle.symbols.specs.Lets.{LetsFit};
-ghost use Rattle.symbols.specs.Sources.{sourceList, SourceFits, LookedFits};
+ghost use Rattle.symbols.specs.Sources.{LookedFits};
 ghost use Rattle.symbols.specs.Brings.{listOf, brings, broughtBy};
-ghost use Rattle.operands.specs.Picked.{chosen, standsIn, withIndex, Whole, Picks, heldAs};
-ghost use Rattle.operands.specs.Entries.{entriesAs, StandsFor, parameterNames, covariateNames, parametersIn, covariatesIn};
+ghost use Rattle.operands.specs.Picked.{standsIn, withIndex, PickedAs};
+ghost use Rattle.operands.specs.Entries.{entriesAs, targetOf, StandsFor, operandNames, parametersIn, covariatesIn};
 use context::Found;
 use context::Layout;
 use context::Names;
@@ -27,18 +28,6 @@ use symbols::Looked;
 use symbols::Source;
 use tokens::Classes;
 
-// Indexes: how many, and which.
-pub struct Picked {
-    pub count: usize,
-    pub indexes: [u8; 64],
-}
-
-// Indexes, or that a name is missing.
-pub struct Held {
-    pub missing: bool,
-    pub list: Picked,
-}
-
 // The faults of an operand by their numbers.
 pub const NO_FAULT: u8 = 0;
 
@@ -46,19 +35,10 @@ pub const UNKNOWN_SYMBOL: u8 = 14;
 
 pub const UNKNOWN_NAME: u8 = 15;
 
-// The indexes of an operand, or why there are none.
+// How many indexes an operand has in the array that was lent, or why there are none.
 pub struct Entries {
     pub fault: u8,
-    pub list: Picked,
-}
-
-fn none_picked() -> Picked
-    ensures { λ r. ⌜ Whole r × (r .count ≡ 0) ⌝ }
-{
-    Picked {
-        count: 0,
-        indexes: [0; 64],
-    }
+    pub count: usize,
 }
 
 // Whether an index stands among the first so many.
@@ -98,13 +78,13 @@ fn hold_values(
     lists: &[u32],
     items: Items,
     target: Names,
-) -> Held
-    requires { ⌜ (now classes ≡ classTable) × Listed (now text) items × Sound (now block) (now lists) target ⌝ }
-    ensures { λ r. ⌜ Picks (target .count) (r .list)
-        × (heldAs r ≡ held (namesIn (now (block .entry)) (now (lists .entry)) target)
+    indexes: &mut [u8; 64],
+) -> Entries
+    requires { ⌜ (now classes ≡ classTable) × Listed (now text) items × Sound (now block) (now lists) target × (length (now indexes) ≡ 64) ⌝ }
+    ensures { λ r. ⌜ PickedAs (target .count) r (now (indexes .exit))
+        × (entriesAs r (now (indexes .exit)) ≡ held (namesIn (now (block .entry)) (now (lists .entry)) target)
         (accepted (map (λ i. i .name .spelling) (itemsIn (now (text .entry)) items)))) ⌝ }
 {
-    let mut indexes = [0; 64];
     let mut n = 0;
     let mut i = 0;
     let mut cur = items.first;
@@ -113,34 +93,40 @@ fn hold_values(
         let name = entry.name;
         match context::index_of(block, lists, target, symbols::spelling(text, name)) {
             Found::Place(place) => {
-                n = push_index(&mut indexes, n, place as u8);
+                n = push_index(indexes, n, place as u8);
                 cur = checks::past_comma(text, classes, entry.next);
                 i += 1;
             }
             Found::Nothing => {
-                return Held {
-                    missing: true,
-                    list: Picked { count: n, indexes },
+                return Entries {
+                    fault: UNKNOWN_NAME,
+                    count: n,
                 };
             }
         }
     }
-    Held {
-        missing: false,
-        list: Picked { count: n, indexes },
+    Entries {
+        fault: NO_FAULT,
+        count: n,
     }
 }
 
 // What a source has in the block, each name held to a list as it is brought, or that one is not there.
-fn hold_block(block: &[u8], lists: &[u32], layout: Layout, source: Source, target: Names) -> Held
-    requires { ⌜ Stands (now block) (now lists) layout × Sound (now block) (now lists) target ⌝ }
-    ensures { λ r. ⌜ Picks (target .count) (r .list)
-        × (heldAs r ≡ held (namesIn (now (block .entry)) (now (lists .entry)) target)
+fn hold_block(
+    block: &[u8],
+    lists: &[u32],
+    layout: Layout,
+    source: Source,
+    target: Names,
+    indexes: &mut [u8; 64],
+) -> Entries
+    requires { ⌜ Stands (now block) (now lists) layout × Sound (now block) (now lists) target × (length (now indexes) ≡ 64) ⌝ }
+    ensures { λ r. ⌜ PickedAs (target .count) r (now (indexes .exit))
+        × (entriesAs r (now (indexes .exit)) ≡ held (namesIn (now (block .entry)) (now (lists .entry)) target)
         (accepted (broughtBy (brings (now (block .entry)) (now (lists .entry)) layout source) (listOf layout source .count)))) ⌝ }
 {
     let names = symbols::list_of(layout, source);
     let count = names.count;
-    let mut indexes = [0; 64];
     let mut n = 0;
     let mut i = 0;
     while i < count {
@@ -148,13 +134,13 @@ fn hold_block(block: &[u8], lists: &[u32], layout: Layout, source: Source, targe
             Brought::Pair(name) => {
                 match context::index_of(block, lists, target, symbols::spelling(block, name)) {
                     Found::Place(place) => {
-                        n = push_index(&mut indexes, n, place as u8);
+                        n = push_index(indexes, n, place as u8);
                         i += 1;
                     }
                     Found::Nothing => {
-                        return Held {
-                            missing: true,
-                            list: Picked { count: n, indexes },
+                        return Entries {
+                            fault: UNKNOWN_NAME,
+                            count: n,
                         };
                     }
                 }
@@ -164,134 +150,115 @@ fn hold_block(block: &[u8], lists: &[u32], layout: Layout, source: Source, targe
             }
         }
     }
-    Held {
-        missing: false,
-        list: Picked { count: n, indexes },
-    }
-}
-
-// What is held, as it is answered.
-fn entries_held(held: Held) -> Entries
-    ensures { λ r. ⌜ (r .list ≡ held .list) × (entriesAs r ≡ heldAs held) ⌝ }
-{
-    let list = held.list;
-    if held.missing {
-        return Entries {
-            fault: UNKNOWN_NAME,
-            list,
-        };
-    }
     Entries {
         fault: NO_FAULT,
-        list,
+        count: n,
     }
 }
 
-// The names of a source held to a list.
-fn entries_of(
-    text: &[u8],
-    classes: &Classes,
-    block: &[u8],
-    lists: &[u32],
-    layout: Layout,
-    source: Source,
-    target: Names,
-) -> Entries
-    requires { ⌜ (now classes ≡ classTable) × Stands (now block) (now lists) layout × SourceFits (now text) source
-        × Sound (now block) (now lists) target ⌝ }
-    ensures { λ r. ⌜ Picks (target .count) (r .list)
-        × (entriesAs r ≡ held (namesIn (now (block .entry)) (now (lists .entry)) target)
-        (accepted (sourceList (handedContext (now (block .entry)) (now (lists .entry))) (now (text .entry)) source))) ⌝ }
+// The list that names are held to: that of covariates, or the parameters.
+fn target_of(layout: Layout, every: bool) -> Names
+    ensures { λ r. ⌜ r ≡ targetOf layout every ⌝ }
 {
-    let Source::Values(items) = source else {
-        return entries_held(hold_block(block, lists, layout, source, target));
-    };
-    entries_held(hold_values(text, classes, block, lists, items, target))
-}
-
-fn unknown_symbol() -> Entries
-    ensures { λ r. ⌜ (r .fault ≡ 14) × Whole (r .list) × (r .list .count ≡ 0) ⌝ }
-{
-    Entries {
-        fault: UNKNOWN_SYMBOL,
-        list: none_picked(),
+    if every {
+        return context::covariates(layout);
     }
+    layout.parameters
 }
 
-// What an operand of parameters stands for: "Parameter `*` looks up PK for COVARIATE and IIV, and IIV for IOV and COVARIANCE".
-fn parameter_source(
-    text: &[u8],
+// What an operand stands for. `*` is every covariate, or the word `star` is looked up: "Covariate `*` is every declared covariate, or the data
+// columns where there is no block." "Parameter `*` looks up PK for COVARIATE and IIV, and IIV for IOV and COVARIANCE".
+// The word is a part of the text or `star`, so the two have one lifetime.
+fn source_of<'a>(
+    text: &'a [u8],
     lets: &[u32],
     n: usize,
     layout: Layout,
-    star: &[u8],
+    star: &'a [u8],
+    every: bool,
     operand: Operand,
 ) -> Looked
     requires { ⌜ LetsFit (now text) (now lets) n × OperandFits (now text) operand ⌝ }
     ensures { λ r. ⌜ LookedFits (now (text .entry)) r
-        × StandsFor (now (text .entry)) layout r (parameterNames (now (text .entry)) (now (lets .entry)) n (now (star .entry)) operand) ⌝ }
+        × StandsFor (now (text .entry)) layout r
+        (operandNames (now (text .entry)) (now (lets .entry)) n (now (star .entry)) every operand) ⌝ }
 {
-    match operand {
-        Operand::Wildcard => symbols::look_up(text, lets, n, layout, star),
-        Operand::Symbol(name) => symbols::look_up(
-            text,
-            lets,
-            n,
-            layout,
-            symbols::spelling(text, name),
-        ),
-        Operand::Names(items) => Looked::Names(Source::Values(items)),
-    }
+    let word = match operand {
+        Operand::Names(items) => return Looked::Names(Source::Values(items)),
+        Operand::Symbol(name) => symbols::spelling(text, name),
+        Operand::Wildcard => {
+            if every {
+                return Looked::Names(Source::Covariates);
+            }
+            star
+        }
+    };
+    symbols::look_up(text, lets, n, layout, word)
 }
 
-// What an operand of covariates stands for: "Covariate `*` is every declared covariate, or the data columns where there is no block."
-fn covariate_source(text: &[u8], lets: &[u32], n: usize, layout: Layout, operand: Operand) -> Looked
-    requires { ⌜ LetsFit (now text) (now lets) n × OperandFits (now text) operand ⌝ }
-    ensures { λ r. ⌜ LookedFits (now (text .entry)) r
-        × StandsFor (now (text .entry)) layout r (covariateNames (now (text .entry)) (now (lets .entry)) n operand) ⌝ }
-{
-    match operand {
-        Operand::Wildcard => Looked::Names(Source::Covariates),
-        Operand::Symbol(name) => symbols::look_up(
-            text,
-            lets,
-            n,
-            layout,
-            symbols::spelling(text, name),
-        ),
-        Operand::Names(items) => Looked::Names(Source::Values(items)),
-    }
-}
-
-// The parameters of an operand, as indexes of the context's.
-pub fn parameters_of(
-    text: &[u8],
+// The covariates of an operand if `every`, or its parameters.
+fn operand_entries<'a>(
+    text: &'a [u8],
     classes: &Classes,
     block: &[u8],
     lists: &[u32],
-    layout: Layout,
     lets: &[u32],
     n: usize,
-    star: &[u8],
+    star: &'a [u8],
+    every: bool,
     operand: Operand,
+    indexes: &mut [u8; 64],
 ) -> Entries
-    requires { ⌜ (now classes ≡ classTable) × Stands (now block) (now lists) layout × LetsFit (now text) (now lets) n
-        × OperandFits (now text) operand ⌝ }
-    ensures { λ r. ⌜ Picks (layout .parameters .count) (r .list)
-        × (entriesAs r ≡ parametersIn (now (text .entry)) (now (lets .entry)) n (now (block .entry)) (now (lists .entry))
+    requires { ⌜ (now classes ≡ classTable) × (isHanded (now block) (now lists) ≡ true) × LetsFit (now text) (now lets) n
+        × OperandFits (now text) operand × (length (now indexes) ≡ 64) ⌝ }
+    ensures { λ r. ⌜ PickedAs (targetOf (layoutOf (now (lists .entry))) every .count) r (now (indexes .exit))
+        × (entriesAs r (now (indexes .exit)) ≡ cond every
+        (covariatesIn (now (text .entry)) (now (lets .entry)) n (now (block .entry)) (now (lists .entry)) operand)
+        (parametersIn (now (text .entry)) (now (lets .entry)) n (now (block .entry)) (now (lists .entry)) (now (star .entry)) operand)) ⌝ }
+{
+    let layout = context::read_layout(lists);
+    let target = target_of(layout, every);
+    let Looked::Names(source) = source_of(text, lets, n, layout, star, every, operand) else {
+        return Entries {
+            fault: UNKNOWN_SYMBOL,
+            count: 0,
+        };
+    };
+    let Source::Values(items) = source else {
+        return hold_block(block, lists, layout, source, target, indexes);
+    };
+    hold_values(text, classes, block, lists, items, target, indexes)
+}
+
+// The parameters of an operand, as indexes of the context's.
+pub fn parameters_of<'a>(
+    text: &'a [u8],
+    classes: &Classes,
+    block: &[u8],
+    lists: &[u32],
+    lets: &[u32],
+    n: usize,
+    star: &'a [u8],
+    operand: Operand,
+    indexes: &mut [u8; 64],
+) -> Entries
+    requires { ⌜ (now classes ≡ classTable) × (isHanded (now block) (now lists) ≡ true) × LetsFit (now text) (now lets) n
+        × OperandFits (now text) operand × (length (now indexes) ≡ 64) ⌝ }
+    ensures { λ r. ⌜ PickedAs (layoutOf (now (lists .entry)) .parameters .count) r (now (indexes .exit))
+        × (entriesAs r (now (indexes .exit)) ≡ parametersIn (now (text .entry)) (now (lets .entry)) n (now (block .entry)) (now (lists .entry))
         (now (star .entry)) operand) ⌝ }
 {
-    let Looked::Names(source) = parameter_source(text, lets, n, layout, star, operand) else {
-        return unknown_symbol();
-    };
-    entries_of(
+    operand_entries(
         text,
         classes,
         block,
         lists,
-        layout,
-        source,
-        layout.parameters,
+        lets,
+        n,
+        star,
+        false,
+        operand,
+        indexes,
     )
 }
 
@@ -301,26 +268,27 @@ pub fn covariates_of(
     classes: &Classes,
     block: &[u8],
     lists: &[u32],
-    layout: Layout,
     lets: &[u32],
     n: usize,
     operand: Operand,
+    indexes: &mut [u8; 64],
 ) -> Entries
-    requires { ⌜ (now classes ≡ classTable) × Stands (now block) (now lists) layout × LetsFit (now text) (now lets) n
-        × OperandFits (now text) operand ⌝ }
-    ensures { λ r. ⌜ Picks (covariatesOf layout .count) (r .list)
-        × (entriesAs r ≡ covariatesIn (now (text .entry)) (now (lets .entry)) n (now (block .entry)) (now (lists .entry)) operand) ⌝ }
+    requires { ⌜ (now classes ≡ classTable) × (isHanded (now block) (now lists) ≡ true) × LetsFit (now text) (now lets) n
+        × OperandFits (now text) operand × (length (now indexes) ≡ 64) ⌝ }
+    ensures { λ r. ⌜ PickedAs (covariatesOf (layoutOf (now (lists .entry))) .count) r (now (indexes .exit))
+        × (entriesAs r (now (indexes .exit)) ≡ covariatesIn (now (text .entry)) (now (lets .entry)) n (now (block .entry)) (now (lists .entry))
+        operand) ⌝ }
 {
-    let Looked::Names(source) = covariate_source(text, lets, n, layout, operand) else {
-        return unknown_symbol();
-    };
-    entries_of(
+    operand_entries(
         text,
         classes,
         block,
         lists,
-        layout,
-        source,
-        context::covariates(layout),
+        lets,
+        n,
+        b"",
+        true,
+        operand,
+        indexes,
     )
 }

@@ -13,11 +13,10 @@ ghost use Rattle.resolving.specs.Context.{kindAt};
 ghost use Rattle.resolving.specs.Effects.{against};
 ghost use Rattle.resolving.specs.Handed.{handedContext};
 ghost use Rattle.context.specs.Lists.{Stands, covariatesOf};
-ghost use Rattle.operands.specs.Picked.{chosen, Picks};
+ghost use Rattle.operands.specs.Picked.{Indexes};
 ghost use Rattle.terms.specs.Terms.{kindIn, formTerms, covariateTerms, parameterTerms};
 use context::Layout;
 use forms::Modes;
-use operands::Picked;
 
 // The kind of a covariate, where there is a declaration block.
 pub enum SomeKind {
@@ -127,17 +126,15 @@ pub fn any_against(
     block: &[u8],
     lists: &[u32],
     layout: Layout,
-    covariates: Picked,
+    covariates: &[u8],
     effects: Modes,
 ) -> bool
-    requires { ⌜ Stands (now block) (now lists) layout × Picks (covariatesOf layout .count) covariates ⌝ }
-    ensures { λ r. ⌜ r ≡ any (against (handedContext (now (block .entry)) (now (lists .entry))) (modesIn effects)) (chosen covariates) ⌝ }
+    requires { ⌜ Stands (now block) (now lists) layout × Indexes (covariatesOf layout .count) (now covariates) ⌝ }
+    ensures { λ r. ⌜ r ≡ any (against (handedContext (now (block .entry)) (now (lists .entry))) (modesIn effects)) (now (covariates .entry)) ⌝ }
 {
-    let indexes = covariates.indexes;
-    let count = covariates.count;
     let mut i = 0;
-    while i < count {
-        let kind = kind_of(block, lists, layout, indexes[i] as usize);
+    while i < covariates.len() {
+        let kind = kind_of(block, lists, layout, covariates[i] as usize);
         if has_against(kind, forms_of(effects, kind)) {
             return true;
         }
@@ -151,24 +148,22 @@ fn put_covariates(
     block: &[u8],
     lists: &[u32],
     layout: Layout,
-    covariates: Picked,
+    covariates: &[u8],
     effects: Modes,
     head: u32,
     terms: &mut [u32],
     at: usize,
 ) -> usize
-    requires { ⌜ Stands (now block) (now lists) layout × Picks (covariatesOf layout .count) covariates × (head ≤ 67190000)
-        × Room at (covariateTerms (handedContext (now block) (now lists)) (modesIn effects) head (chosen covariates)) ⌝ }
+    requires { ⌜ Stands (now block) (now lists) layout × Indexes (covariatesOf layout .count) (now covariates) × (head ≤ 67190000)
+        × Room at (covariateTerms (handedContext (now block) (now lists)) (modesIn effects) head (now covariates)) ⌝ }
     ensures { λ r. ⌜ Written (now (terms .entry)) at
-        (covariateTerms (handedContext (now (block .entry)) (now (lists .entry))) (modesIn effects) head (chosen covariates))
+        (covariateTerms (handedContext (now (block .entry)) (now (lists .entry))) (modesIn effects) head (now (covariates .entry)))
         (now (terms .exit)) r ⌝ }
 {
-    let indexes = covariates.indexes;
-    let count = covariates.count;
     let mut i = 0;
     let mut next = at;
-    while i < count {
-        let index = indexes[i];
+    while i < covariates.len() {
+        let index = covariates[i];
         let kind = kind_of(block, lists, layout, index as usize);
         let packed = forms_of(effects, kind);
         next = put_forms(terms, next, head + 32 * index as u32, packed);
@@ -182,26 +177,24 @@ pub fn put_terms(
     block: &[u8],
     lists: &[u32],
     layout: Layout,
-    parameters: Picked,
-    covariates: Picked,
+    parameters: &[u8],
+    covariates: &[u8],
     effects: Modes,
     head: u32,
     terms: &mut [u32],
     at: usize,
 ) -> usize
-    requires { ⌜ Stands (now block) (now lists) layout × Picks 64 parameters × Picks (covariatesOf layout .count) covariates
+    requires { ⌜ Stands (now block) (now lists) layout × Indexes 64 (now parameters) × Indexes (covariatesOf layout .count) (now covariates)
         × (head ≤ 67000000)
-        × Room at (parameterTerms (handedContext (now block) (now lists)) (modesIn effects) head (chosen parameters) (chosen covariates)) ⌝ }
+        × Room at (parameterTerms (handedContext (now block) (now lists)) (modesIn effects) head (now parameters) (now covariates)) ⌝ }
     ensures { λ r. ⌜ Written (now (terms .entry)) at
-        (parameterTerms (handedContext (now (block .entry)) (now (lists .entry))) (modesIn effects) head (chosen parameters) (chosen covariates))
+        (parameterTerms (handedContext (now (block .entry)) (now (lists .entry))) (modesIn effects) head (now (parameters .entry)) (now (covariates .entry)))
         (now (terms .exit)) r ⌝ }
 {
-    let indexes = parameters.indexes;
-    let count = parameters.count;
     let mut i = 0;
     let mut next = at;
-    while i < count {
-        let own = head + 2048 * indexes[i] as u32;
+    while i < parameters.len() {
+        let own = head + 2048 * parameters[i] as u32;
         next = put_covariates(block, lists, layout, covariates, effects, own, terms, next);
         i += 1;
     }

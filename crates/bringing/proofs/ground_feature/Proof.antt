@@ -59,21 +59,21 @@ unfolding keywords apart featureApart
 stay-variables-requires c κs =
     let x = c .before .before .before .feature2 in
     let s = c .before .before .before .before .before .before .before .before .before .before in
-    (s .pre .0, s .pre .1, s .pre .2, s .pre .3, s .pre .4, fits s (x .given .1) .first, omega arith, s .pre .8)
+    (s .pre .0, s .pre .1, s .pre .2, s .pre .3 .is, s .pre .4, fits s (x .given .1) .first, omega arith, s .pre .8)
 
 stay-variables-requires-2 : tie.Need-stay-variables-requires-2
 unfolding keywords apart featureApart
 stay-variables-requires-2 c κs =
     let x = c .before .before .before .feature3 in
     let s = c .before .before .before .before .before .before .before .before .before .before in
-    (s .pre .0, s .pre .1, s .pre .2, s .pre .3, s .pre .4, fits s (x .given .1) .first, omega arith, s .pre .8)
+    (s .pre .0, s .pre .1, s .pre .2, s .pre .3 .is, s .pre .4, fits s (x .given .1) .first, omega arith, s .pre .8)
 
 stay-variables-requires-3 : tie.Need-stay-variables-requires-3
 unfolding keywords apart featureApart
 stay-variables-requires-3 c κs =
     let x = c .before .before .before .feature4 in
     let s = c .before .before .before .before .before .before .before .before .before .before in
-    (s .pre .0, s .pre .1, s .pre .2, s .pre .3, s .pre .4, fits s (x .given .1) .second, omega arith, s .pre .8)
+    (s .pre .0, s .pre .1, s .pre .2, s .pre .3 .is, s .pre .4, fits s (x .given .1) .second, omega arith, s .pre .8)
 
 returns-2 : tie.Need-returns-2
 returns-2 c =

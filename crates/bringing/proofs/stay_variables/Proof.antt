@@ -1,23 +1,21 @@
 -- `bringing::stay_variables` meets its contract.
 -- Assumes nothing.
 use Prim.Native.Nat.{ℕ, _≤_}
-use mathlib.Core.Path.{_≡_, refl, _∙_, ap, sym, subst}
-use mathlib.Core.Bool.{false}
-use mathlib.Core.List.{List, _++_}
+use mathlib.Core.Path.{_≡_, refl, sym, subst}
+use mathlib.Core.List.{List}
 use native.Mathlib.Omega.{arith}
 use borrow.Author.Tests.{lt-ltb, le-ltb}
-use lib.Dec.{ltb}
-use lib.ListN.{length}
-use lib.Seq.{length-take-le}
+use lib.ListN.{length, take}
 use denote.Ref.{now}
 use borrow.Author.Needs.{needs}
-use Rattle.reading.specs.Answer.{accepted, refused}
+use Rattle.reading.specs.Answer.{accepted}
 use Rattle.forms.specs.Forms.{modesIn}
 use Rattle.resolving.specs.Brought.{whole}
 use Rattle.resolving.specs.Handed.{handedContext}
-use Rattle.context.specs.Lists.{namesIn}
-use Rattle.context.proofs.Meaning.{parameters-are, parameters-sound}
-use Rattle.operands.specs.Picked.{chosen}
+use Rattle.context.specs.declared.Layout.{Layout}
+use Rattle.context.specs.Lists.{namesIn, Stands, layoutOf}
+use Rattle.context.proofs.Meaning.{handed-heads-fit, parameters-are, parameters-sound}
+use Rattle.operands.specs.Picked.{Indexes}
 use Rattle.operands.specs.Entries.{parametersIn}
 use Rattle.render.specs.Text.{jointOf}
 use Rattle.writing.proofs.Writing.{room-same}
@@ -25,93 +23,119 @@ use Rattle.writing.proofs.Going.{going, further, finished, room-left, room-firs
 use Rattle.grounding.specs.Listed.{variableBytes}
 use Rattle.grounding.proofs.Sizes.{whole-few, variables-short}
 use Rattle.bringing.specs.Stays.{VariablesAs}
-use Rattle.bringing.proofs.Variables.{entries-refused, entries-accepted, names-short, piece-small, piece-room}
+use Rattle.bringing.proofs.Variables.{entries-refused, entries-accepted, picked-many, names-short, piece-small, piece-room}
 use Rattle.bringing.proofs.stay_variables.Statement.{statement}
 use Rattle.bringing.proofs.stay_variables.Tie as tie
+
+abbrev start : tie.After-parameters-of → tie.Start
+start p = p .before .before .before .before .before .before .before .before
+
+-- the array that was lent, and the operand's indexes in it
+abbrev lent : tie.After-parameters-of → List ℕ
+lent p = p .parameters-of .last .1 .1 .1 .1 .1 .1 .1 .1 .0
+
+abbrev list : tie.After-parameters-of → List ℕ
+list p = take (p .parameters-of .result .count) (lent p)
 
 returns : tie.Need-returns
 unfolding VariablesAs
 returns c =
     let p = c .before .before in
-    (entries-refused (p .parameters-of .result) (p .parameters-of .ensures .1) (c .if1 .taken), refl)
+    (entries-refused (p .parameters-of .result) (lent p) (p .parameters-of .ensures .1) (c .if1 .taken), refl)
 
--- the operand's indexes
-indexes :
+found :
     (c : tie.Else1)
     → let p = c .before .before in
-    let a = p .before .before .before .before .before .before .before .args in
-    parametersIn (now (a .text)) (now (a .lets)) (a .n) (now (a .block)) (now (a .lists)) (now (a .star)) (a .parameters)
-    ≡ accepted (chosen (p .parameters-of .result .list))
-indexes c =
+    let a = start p .args in
+    parametersIn (now (a .text)) (now (a .lets)) (a .n) (now (a .block)) (now (a .lists)) (now (a .star)) (a .parameters) ≡ accepted (list p)
+found c =
     let p = c .before .before in
-    entries-accepted (p .parameters-of .result) (p .parameters-of .ensures .1) (c .if1 .left)
+    entries-accepted (p .parameters-of .result) (lent p) (p .parameters-of .ensures .1) (c .if1 .left)
 
 -- how many there are
-many : (c : tie.After-parameters-of) → length (chosen (c .parameters-of .result .list)) ≡ c .parameters-of .result .list .count
-many c =
-    let q = c .parameters-of .ensures .0 in
-    length-take-le (c .parameters-of .result .list .count) (c .parameters-of .result .list .indexes) (omega (arith, q .few, q .size))
+many : (p : tie.After-parameters-of) → length (list p) ≡ p .parameters-of .result .count
+many p = picked-many (p .parameters-of .result) (lent p) (p .parameters-of .ensures .0)
 
 returns-2 : tie.Need-returns-2
 unfolding VariablesAs
 returns-2 c =
-    let e = c .before .before .before in
+    let e = c .before .before in
     let p = e .before .before in
-    let is = chosen (p .parameters-of .result .list) in
-    let a = p .before .before .before .before .before .before .before .args in
-    record { indexes = is; found = indexes e; tooFew = lt-ltb (length is) (a .least) (omega (arith, c .if2 .taken, many p)); same = refl }
+    record {
+      indexes = list p;
+      found = found e;
+      tooFew = lt-ltb (length (list p)) (start p .args .least) (omega (arith, c .if2 .taken, many p));
+      same = refl;
+    }
 
-abbrev own : (c : tie.After-parameters-of) → List ℕ
-own c =
-    let a = c .before .before .before .before .before .before .before .args in
-    variableBytes (a .keyword) (a .optional) (handedContext (now (a .block)) (now (a .lists)) .parameters) (chosen (c .parameters-of .result .list))
-    (a .family) (whole (a .family) (modesIn (a .modes))) (a .named)
+abbrev own : (p : tie.After-parameters-of) → List ℕ
+own p =
+    let a = start p .args in
+    variableBytes (a .keyword) (a .optional) (handedContext (now (a .block)) (now (a .lists)) .parameters) (list p) (a .family)
+    (whole (a .family) (modesIn (a .modes))) (a .named)
 
-own-short : (c : tie.After-parameters-of) → length (own c) ≤ 20000
-own-short c =
-    let s = c .before .before .before .before .before .before .before in
+own-short : (p : tie.After-parameters-of) → length (own p) ≤ 20000
+own-short p =
+    let s = start p in
     let a = s .args in
-    let q = c .parameters-of .ensures .0 in
     omega (
       arith,
       variables-short (handedContext (now (a .block)) (now (a .lists)) .parameters)
-          (names-short (now (a .block)) (now (a .lists)) (a .layout) (s .pre .3))
-          (chosen (c .parameters-of .result .list)) (omega (arith, many c, q .few)) (a .family) (whole (a .family) (modesIn (a .modes)))
+          (names-short (now (a .block)) (now (a .lists)) (layoutOf (now (a .lists))) (record { is = s .pre .3; there = refl }))
+          (list p) (p .parameters-of .ensures .0 .indexes .few) (a .family) (whole (a .family) (modesIn (a .modes)))
           (whole-few (a .family) (a .modes)) (a .keyword) (a .optional) (a .named),
     )
 
+-- behind the tests
+abbrev passed : tie.Else2 → tie.After-parameters-of
+passed e = e .before .before .before .before
+
 put-joint-requires : tie.Need-put-joint-requires
 put-joint-requires c κs =
-    let p = c .before .before .before .before .before .before in
-    let s = p .before .before .before .before .before .before .before in
+    let p = passed (c .before) in
+    let s = start p in
     room-first (jointOf (s .args .before)) (own p) (piece-room (s .args .before) (own p) (own-short p) (s .args .at) (s .pre .7))
     (going (now (s .args .out)) (s .args .at) _)
 
--- the bytes as the code has them
-same :
-    (c : tie.After-whole-modes)
-    → let p = c .before .before .before .before .before .before .before .before .before .before in
-    let a = p .before .before .before .before .before .before .before .args in
-    own p
-    ≡ variableBytes (a .keyword) (a .optional) (namesIn (now (a .block)) (now (a .lists)) (a .layout .parameters)) (chosen (p .parameters-of .result .list))
-    (a .family) (modesIn (c .whole-modes .result)) (a .named)
-same c =
-    let p = c .before .before .before .before .before .before .before .before .before .before in
-    let s = p .before .before .before .before .before .before .before in
-    rw (parameters-are (now (s .args .block)) (now (s .args .lists)) (s .args .layout) (s .pre .3), c .whole-modes .ensures) refl
+abbrev joined : tie.After-whole-modes → tie.After-put-joint
+joined w = w .before .before .before
+
+-- with the layout
+module _ (y : tie.After-read-layout) where
+  abbrev looked : tie.After-parameters-of
+  looked = passed (joined (y .before) .before .before)
+
+  abbrev layout : Layout
+  layout = y .read-layout .result
+
+  stands : let a = start looked .args in Stands (now (a .block)) (now (a .lists)) layout
+  stands = record { is = start looked .pre .3; there = y .read-layout .ensures }
+
+  -- the bytes as the code has them
+  same :
+      let a = start looked .args in
+      own looked
+      ≡ variableBytes (a .keyword) (a .optional) (namesIn (now (a .block)) (now (a .lists)) (layout .parameters)) (list looked) (a .family)
+      (modesIn (y .before .whole-modes .result)) (a .named)
+  same =
+      let a = start looked .args in
+      rw (parameters-are (now (a .block)) (now (a .lists)) layout stands, y .before .whole-modes .ensures) refl
+
+array-share-prefix-list : tie.Need-array-share-prefix-list
+array-share-prefix-list y = let q = looked y .parameters-of .ensures .0 in omega (arith, q .few, q .size)
 
 put-variables-requires : tie.Need-put-variables-requires
 put-variables-requires c κs =
-    let w = c .before in
-    let j = w .before .before .before in
-    let p = j .before .before .before .before .before .before .before in
-    let s = p .before .before .before .before .before .before .before in (
+    let y = c .before .before in
+    let j = joined (y .before) in
+    let p = looked y in
+    let s = start p in (
       s .pre .1,
       s .pre .2,
-      parameters-sound (now (s .args .block)) (now (s .args .lists)) (s .args .layout) (s .pre .3),
-      p .parameters-of .ensures .0,
+      parameters-sound (now (s .args .block)) (now (s .args .lists)) (layout y) (stands y),
+      subst (λ (l : Layout). Indexes (l .parameters .count) (list p)) (sym (y .read-layout .ensures)) (p .parameters-of .ensures .0 .indexes),
       s .pre .6,
-      room-same (j .put-joint .result) (same w)
+      room-same (j .put-joint .result) (same y)
           (room-left {left = own p} (piece-room (s .args .before) (own p) (own-short p) (s .args .at) (s .pre .7))
           (further (going _ _ _) (j .put-joint .ensures))),
     )
@@ -120,16 +144,16 @@ returns-3 : tie.Need-returns-3
 unfolding VariablesAs
 returns-3 c =
     let v = c .before .before in
-    let w = v .before .before in
-    let j = w .before .before .before in
-    let e = j .before .before .before .before .before in
-    let p = e .before .before in
-    let s = p .before .before .before .before .before .before .before in
+    let y = v .before .before .before in
+    let j = joined (y .before) in
+    let e = j .before .before in
+    let p = looked y in
+    let s = start p in
     record {
-      indexes = chosen (p .parameters-of .result .list);
-      found = indexes e;
-      enough = le-ltb (length (chosen (p .parameters-of .result .list))) (s .args .least) (omega (arith, j .before .before .if2 .left, many p));
-      written = finished (further (going _ _ _) (j .put-joint .ensures)) (rw (same w) (v .put-variables .ensures));
+      indexes = list p;
+      found = found (e .before .before);
+      enough = le-ltb (length (list p)) (s .args .least) (omega (arith, e .if2 .left, many p));
+      written = finished (further (going _ _ _) (j .put-joint .ensures)) (rw (same y) (v .put-variables .ensures));
       small = piece-small (s .args .before) (own p) (own-short p);
     }
 
@@ -142,6 +166,9 @@ stay-variables-spec =
     returns-2
     put-joint-requires
     (λ c κs. search needs)
+    (λ c κs. handed-heads-fit _ _ (start (passed (joined c .before .before)) .pre .3))
+    array-share-prefix-list
+    (λ c. sym (many (looked (c .before))))
     put-variables-requires
     (λ c. search needs)
     returns-3)

@@ -8,7 +8,6 @@ use denote.Ref.{now}
 use borrow.Author.Needs.{needs}
 use Rattle.forms.specs.Forms.{modesIn}
 use Rattle.context.specs.Lists.{namesIn}
-use Rattle.operands.specs.Picked.{chosen}
 use Rattle.writing.proofs.Writing.{room-same}
 use Rattle.grounding.specs.Listed.{eitherBytes}
 use Rattle.grounding.proofs.put_either.Statement.{statement}
@@ -16,13 +15,13 @@ use Rattle.grounding.proofs.put_either.Tie as tie
 
 abbrev asked : (s : tie.Start) → Bool → List ℕ
 asked s t =
-    eitherBytes (namesIn (now (s .args .block)) (now (s .args .lists)) (s .args .names)) (chosen (s .args .list)) (s .args .family)
+    eitherBytes (namesIn (now (s .args .block)) (now (s .args .lists)) (s .args .names)) (now (s .args .list)) (s .args .family)
     (modesIn (s .args .modes)) t
 
 put-listed-requires : tie.Need-put-listed-requires
 put-listed-requires c κs =
     let t = c .before in
-    let s = t .before .before .before .before in
+    let s = t .before .before .before .before .before in
     (s .pre .1, s .pre .2, room-same (s .args .at) (ap (asked s) (t .if1 .taken)) (s .pre .3))
 
 returns : tie.Need-returns
@@ -33,7 +32,7 @@ returns c =
 put-modes-requires : tie.Need-put-modes-requires
 put-modes-requires c κs =
     let t = c .before in
-    let s = t .before .before .before .before in
+    let s = t .before .before .before .before .before in
     (s .pre .0, room-same (s .args .at) (ap (asked s) (t .if1 .left)) (s .pre .3))
 
 returns-2 : tie.Need-returns-2

@@ -1,16 +1,11 @@
 -- `grounding::put_listed` meets its contract: bare if it is one name, else `[`, the names, `]`.
 -- Assumes nothing.
 use Prim.Native.Nat.{ℕ}
-use mathlib.Core.Path.{_≡_, _∙_, sym}
 use mathlib.Core.List.{List, _++_}
-use lib.ListN.{length}
-use native.Mathlib.Omega.{arith}
-use lib.Seq.{length-take-le}
 use denote.Ref.{now}
 use borrow.Author.Needs.{needs}
 use Rattle.text.specs.Bytes.{bytes}
 use Rattle.context.specs.Lists.{namesIn}
-use Rattle.operands.specs.Picked.{chosen}
 use Rattle.writing.proofs.Writing.{room-same}
 use Rattle.writing.proofs.Going.{going, further, finished, room-left, room-first}
 use Rattle.grounding.specs.Listed.{listedBytes}
@@ -21,32 +16,22 @@ use Rattle.grounding.proofs.put_listed.Tie as tie
 abbrev own : (s : tie.Start) → List (List ℕ)
 own s = namesIn (now (s .args .block)) (now (s .args .lists)) (s .args .names)
 
--- how many are chosen
-many : (s : tie.Start) → length (chosen (s .args .list)) ≡ s .args .list .count
-many s = length-take-le (s .args .list .count) (s .args .list .indexes) (omega (arith, s .pre .1 .few, s .pre .1 .size))
-
-is1 : (c : tie.Then1) → length (chosen (c .before .before .before .before .before .args .list)) ≡ 1
-is1 c = many (c .before .before .before .before .before) ∙ c .if1 .taken
-
-not1 : (c : tie.Else1) → length (chosen (c .before .before .before .before .before .args .list)) ≡ 1 → ⊥
-not1 c e = c .if1 .left (sym (many (c .before .before .before .before .before)) ∙ e)
-
 put-names-at-requires : tie.Need-put-names-at-requires
 put-names-at-requires c κs =
     let s = c .before .before .before .before .before .before in
-    (s .pre .0, s .pre .1, room-same (s .args .at) (one-listed (own s) (chosen (s .args .list)) (is1 (c .before))) (s .pre .2))
+    (s .pre .0, s .pre .1, room-same (s .args .at) (one-listed (own s) (now (s .args .list)) (c .before .if1 .taken)) (s .pre .2))
 
 returns : tie.Need-returns
 returns c =
     let t = c .before .before .before .before in
     let s = t .before .before .before .before .before in
-    rw (one-listed (own s) (chosen (s .args .list)) (is1 t)) (c .before .before .put-names-at .ensures)
+    rw (one-listed (own s) (now (s .args .list)) (t .if1 .taken)) (c .before .before .put-names-at .ensures)
 
 put-requires : tie.Need-put-requires
 put-requires c κs =
     let s = c .before .before .before .before .before .before in
-    room-first (bytes "[") (listedBytes (own s) (chosen (s .args .list)) ++ bytes "]")
-    (room-same (s .args .at) (more-listed (own s) (chosen (s .args .list)) (not1 (c .before))) (s .pre .2))
+    room-first (bytes "[") (listedBytes (own s) (now (s .args .list)) ++ bytes "]")
+    (room-same (s .args .at) (more-listed (own s) (now (s .args .list)) (c .before .if1 .left)) (s .pre .2))
     (going (now (s .args .out)) (s .args .at) _)
 
 put-names-at-requires-2 : tie.Need-put-names-at-requires-2
@@ -56,8 +41,8 @@ put-names-at-requires-2 c κs =
     let s = t .before .before .before .before .before in (
       s .pre .0,
       s .pre .1,
-      room-first (listedBytes (own s) (chosen (s .args .list))) (bytes "]")
-          (room-same (s .args .at) (more-listed (own s) (chosen (s .args .list)) (not1 t)) (s .pre .2))
+      room-first (listedBytes (own s) (now (s .args .list))) (bytes "]")
+          (room-same (s .args .at) (more-listed (own s) (now (s .args .list)) (t .if1 .left)) (s .pre .2))
           (further (going _ _ _) (p .put .ensures)),
     )
 
@@ -67,7 +52,7 @@ put-requires-2 c κs =
     let p = q .before .before .before .before in
     let t = p .before .before in
     let s = t .before .before .before .before .before in
-    room-left {left = bytes "]"} (room-same (s .args .at) (more-listed (own s) (chosen (s .args .list)) (not1 t)) (s .pre .2))
+    room-left {left = bytes "]"} (room-same (s .args .at) (more-listed (own s) (now (s .args .list)) (t .if1 .left)) (s .pre .2))
     (further (further (going _ _ _) (p .put .ensures)) (q .put-names-at2 .ensures))
 
 returns-2 : tie.Need-returns-2
@@ -76,7 +61,7 @@ returns-2 c =
     let p = q .before .before .before .before in
     let t = p .before .before in
     let s = t .before .before .before .before .before in
-    rw (more-listed (own s) (chosen (s .args .list)) (not1 t))
+    rw (more-listed (own s) (now (s .args .list)) (t .if1 .left))
     (finished (further (further (going _ _ _) (p .put .ensures)) (q .put-names-at2 .ensures)) (c .before .before .put2 .ensures))
 
 pub put-listed-spec : {M : Type 1} → statement M

@@ -3,7 +3,7 @@
 use Prim.Native.Nat.{_≤_, _-_}
 use mathlib.Core.Path.{sym}
 use native.Mathlib.Omega.{arith}
-use lib.Seq.{slice}
+use lib.ListN.{length, drop}
 use denote.Ref.{now}
 use borrow.Author.Needs.{needs}
 use Rattle.context.specs.Lists.{namesIn}
@@ -15,71 +15,73 @@ use Rattle.grounding.proofs.put_names_at.Statement.{statement}
 use Rattle.grounding.proofs.put_names_at.Tie as tie
 
 abbrev Inv-loop : tie.InvT-loop
-Inv-loop block lists names out₀ at indexes count i₀ next₀ out i next =
-    (i ≤ count)
-    × Going out₀ at (listedBytes (namesIn block lists names) (slice 0 count indexes)) out next
-    (listedBytes (namesIn block lists names) (slice i count indexes))
+Inv-loop block lists names list out₀ at i₀ next₀ out i next =
+    (i ≤ length list)
+    × Going out₀ at (listedBytes (namesIn block lists names) list) out next
+    (listedBytes (namesIn block lists names) (drop i list))
 
 abbrev μ-loop : tie.MeasureT-loop
-μ-loop block lists names out₀ at indexes count i₀ next₀ out i next = count - i
+μ-loop block lists names list out₀ at i₀ next₀ out i next = length list - i
 
 loop-holds : tie.Need-loop-holds Inv-loop μ-loop
 loop-holds c = (omega arith, going _ _ _)
 
-array-read-name-at : tie.Need-array-read-name-at Inv-loop μ-loop
-array-read-name-at c =
-    let s = c .before .before .before .before .before .before in
-    omega (arith, c .loop-test .taken, s .pre .1 .few)
+shared-slice-read-name-at : tie.Need-shared-slice-read-name-at Inv-loop μ-loop
+shared-slice-read-name-at c = c .before .loop-test .taken
+
+cast-name-at : tie.Need-cast-name-at Inv-loop μ-loop
+cast-name-at c = omega (arith, c .shared-slice-known4 .given (c .before .before .loop .i))
 
 name-at-requires : tie.Need-name-at-requires Inv-loop μ-loop
 name-at-requires c κs =
-    let l = c .before in
+    let t = c .before in
+    let l = t .before in
     let s = l .before .before .before .before .before in
-    (s .pre .1 .below (l .loop .i) (c .loop-test .taken), s .pre .0)
+    (s .pre .1 .below (l .loop .i) (t .loop-test .taken), s .pre .0)
 
 put-all-requires : tie.Need-put-all-requires Inv-loop μ-loop
 put-all-requires c κs =
     let m = c .before in
-    let t = m .before in
+    let t = m .before .before in
     let l = t .before in
     let s = l .before .before .before .before .before in
     room-same (l .loop .next) (sym (m .name-at .ensures))
-    (name-room (namesIn (now (s .args .block)) (now (s .args .lists)) (s .args .names)) (s .args .list .indexes) (l .loop .i) (s .args .list .count)
-    (t .loop-test .taken) (omega (arith, s .pre .1 .few, s .pre .1 .size)) (l .loop .inv .1) (s .pre .2))
+    (name-room (namesIn (now (s .args .block)) (now (s .args .lists)) (s .args .names)) (now (s .args .list)) (l .loop .i)
+    (t .loop-test .taken) (l .loop .inv .1) (s .pre .2))
 
 put-comma-requires : tie.Need-put-comma-requires Inv-loop μ-loop
 put-comma-requires c κs =
     let p = c .before .before .before in
     let m = p .before .before in
-    let t = m .before in
+    let t = m .before .before in
     let l = t .before in
     let s = l .before .before .before .before .before in
-    comma-room (namesIn (now (s .args .block)) (now (s .args .lists)) (s .args .names)) (s .args .list .indexes) (l .loop .i) (s .args .list .count)
-    (t .loop-test .taken) (omega (arith, s .pre .1 .few, s .pre .1 .size)) (l .loop .inv .1)
+    comma-room (namesIn (now (s .args .block)) (now (s .args .lists)) (s .args .names)) (now (s .args .list)) (l .loop .i)
+    (t .loop-test .taken) (l .loop .inv .1)
     (rw (m .name-at .ensures) at (p .put-all .ensures)) (s .pre .2)
 
 sub-put-comma : tie.Need-sub-put-comma Inv-loop μ-loop
-sub-put-comma c = omega (arith, c .before .before .before .before .before .before .loop-test .taken)
+sub-put-comma c = omega (arith, c .before .before .before .before .before .before .before .loop-test .taken)
 
 add-i : tie.Need-add-i Inv-loop μ-loop
 add-i c =
-    let t = c .before .before .before .before .before .before .before .before .before in
+    let t = c .before .before .before .before .before .before .before .before .before .before in
     omega (arith, t .loop-test .taken, t .before .before .before .before .before .before .pre .1 .few)
 
 loop-less : tie.Need-loop-less Inv-loop μ-loop
-loop-less c = omega (arith, c .before .before .before .before .before .before .before .before .before .loop-test .taken)
+loop-less c = omega (arith, c .before .before .before .before .before .before .before .before .before .before .loop-test .taken)
 
 loop-again : tie.Need-loop-again Inv-loop μ-loop
 loop-again c =
     let q = c .before .before in
     let p = q .before .before .before .before in
     let m = p .before .before in
-    let t = m .before in
+    let t = m .before .before in
     let l = t .before in
     let s = l .before .before .before .before .before in (
       omega (arith, t .loop-test .taken),
-      name-put (namesIn (now (s .args .block)) (now (s .args .lists)) (s .args .names)) (s .args .list .indexes) (l .loop .i) (s .args .list .count)
-          (t .loop-test .taken) (omega (arith, s .pre .1 .few, s .pre .1 .size)) (l .loop .inv .1)
+      name-put (namesIn (now (s .args .block)) (now (s .args .lists)) (s .args .names)) (now (s .args .list)) (l .loop .i)
+          (t .loop-test .taken) (l .loop .inv .1)
           (rw (m .name-at .ensures) at (p .put-all .ensures)) (q .put-comma .ensures),
     )
 
@@ -90,7 +92,7 @@ returns : tie.Need-returns Inv-loop μ-loop
 returns c =
     let l = c .before in
     let s = l .before .before .before .before .before in
-    none-left (namesIn (now (s .args .block)) (now (s .args .lists)) (s .args .names)) (s .args .list .indexes) (l .loop .i) (s .args .list .count)
+    none-left (namesIn (now (s .args .block)) (now (s .args .lists)) (s .args .names)) (now (s .args .list)) (l .loop .i)
     (omega (arith, c .loop-test .left, l .loop .inv .0)) (l .loop .inv .1)
 
 pub put-names-at-spec : {M : Type 1} → statement M
@@ -100,8 +102,8 @@ put-names-at-spec =
     Inv-loop
     μ-loop
     loop-holds
-    array-read-name-at
-    (λ c. search needs)
+    shared-slice-read-name-at
+    cast-name-at
     name-at-requires
     put-all-requires
     sub-put-comma

@@ -10,7 +10,6 @@ use Rattle.text.specs.Bytes.{bytes}
 use Rattle.labels.specs.Label.{keywords}
 use Rattle.forms.specs.Forms.{modesIn}
 use Rattle.context.specs.Lists.{namesIn}
-use Rattle.operands.specs.Picked.{chosen}
 use Rattle.statement_text.specs.Bytes.{headOf}
 use Rattle.writing.proofs.Going.{going, further, finished, room-left, room-first}
 use Rattle.grounding.specs.Listed.{eitherBytes}
@@ -19,7 +18,7 @@ use Rattle.grounding.proofs.put_variables.Tie as tie
 
 abbrev asked : (s : tie.Start) → Bool → List ℕ
 asked s t =
-    eitherBytes (namesIn (now (s .args .block)) (now (s .args .lists)) (s .args .names)) (chosen (s .args .list)) (s .args .family)
+    eitherBytes (namesIn (now (s .args .block)) (now (s .args .lists)) (s .args .names)) (now (s .args .list)) (s .args .family)
     (modesIn (s .args .modes)) t
 
 -- what is left behind the head, behind the first argument, and behind the `,`
@@ -34,7 +33,7 @@ inside s = asked s (s .args .named) ++ later s
 
 put-head-requires : tie.Need-put-head-requires
 put-head-requires c κs =
-    let s = c .before .before .before .before in (
+    let s = c .before .before .before .before .before in (
       s .pre .1,
       s .pre .4,
       room-first (headOf (getD keywords (s .args .keyword) []) (s .args .optional)) (inside s) (s .pre .5) (going (now (s .args .out)) _ _),
@@ -43,7 +42,7 @@ put-head-requires c κs =
 put-either-requires : tie.Need-put-either-requires
 put-either-requires c κs =
     let h = c .before .before .before in
-    let s = h .before .before .before .before .before in (
+    let s = h .before .before .before .before .before .before in (
       s .pre .0,
       s .pre .2,
       s .pre .3,
@@ -54,7 +53,7 @@ put-requires : tie.Need-put-requires
 put-requires c κs =
     let e = c .before .before .before in
     let h = e .before .before .before .before in
-    let s = h .before .before .before .before .before in
+    let s = h .before .before .before .before .before .before in
     room-first (bytes ",") (last s) (s .pre .5) (further (further (going _ _ _) (h .put-head .ensures)) (e .put-either .ensures))
 
 put-either-requires-2 : tie.Need-put-either-requires-2
@@ -62,7 +61,7 @@ put-either-requires-2 c κs =
     let p = c .before .before .before in
     let e = p .before .before .before .before in
     let h = e .before .before .before .before in
-    let s = h .before .before .before .before .before in (
+    let s = h .before .before .before .before .before .before in (
       s .pre .0,
       s .pre .2,
       s .pre .3,
@@ -76,7 +75,7 @@ put-requires-2 c κs =
     let p = f .before .before .before .before in
     let e = p .before .before .before .before in
     let h = e .before .before .before .before in
-    let s = h .before .before .before .before .before in
+    let s = h .before .before .before .before .before .before in
     room-left {left = bytes ")"} (s .pre .5)
     (further (further (further (further (going _ _ _) (h .put-head .ensures)) (e .put-either .ensures)) (p .put .ensures)) (f .put-either2 .ensures))
 

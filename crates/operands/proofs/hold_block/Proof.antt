@@ -16,18 +16,18 @@ use Rattle.context.proofs.Pairs.{names-length}
 use Rattle.context.proofs.Places.{found-at, found-nowhere}
 use Rattle.symbols.specs.Brings.{listOf, brings, spelledIn, broughtAs, BroughtFits}
 use Rattle.symbols.proofs.Sources.{list-few}
-use Rattle.operands.specs.declared.Picked.{Picked}
-use Rattle.operands.specs.Picked.{Picks}
-use Rattle.operands.proofs.Bringing.{HeldSoFar, brings-none, brings-picks, brings-pair, brings-nothing, brings-missing, brings-end}
+use Rattle.operands.specs.declared.Entries.{Entries}
+use Rattle.operands.specs.Picked.{PickedAs}
+use Rattle.operands.proofs.Bringing.{HeldSoFar, brings-none, brings-picked, brings-pair, brings-nothing, brings-missing, brings-end}
 use Rattle.operands.proofs.hold_block.Statement.{statement}
 use Rattle.operands.proofs.hold_block.Tie as tie
 
 abbrev Inv-loop : tie.InvT-loop
-Inv-loop block lists layout source target count indexes₀ n₀ i₀ indexes n i =
-    HeldSoFar (namesIn block lists target) (brings block lists layout source) (record { count = n; indexes = indexes }) i × (i ≤ count)
+Inv-loop block lists layout source target indexes₀ count n₀ i₀ indexes n i =
+    HeldSoFar (namesIn block lists target) (brings block lists layout source) indexes n i × (i ≤ count)
 
 abbrev μ-loop : tie.MeasureT-loop
-μ-loop block lists layout source target count indexes₀ n₀ i₀ indexes n i = count - i
+μ-loop block lists layout source target indexes₀ count n₀ i₀ indexes n i = count - i
 
 abbrev start : tie.At-loop Inv-loop μ-loop → tie.Start Inv-loop μ-loop
 start l = l .before .before .before .before
@@ -42,14 +42,10 @@ module _ (s : tie.Start Inv-loop μ-loop) where
   entries-many : length entries ≡ s .args .target .count
   entries-many = names-length (now (s .args .block)) (now (s .args .lists)) (s .args .target)
 
--- what is picked so far
-abbrev picked : tie.At-loop Inv-loop μ-loop → Picked
-picked l = record { count = l .loop .n; indexes = l .loop .indexes }
-
-picks : (l : tie.At-loop Inv-loop μ-loop) → Picks (start l .args .target .count) (picked l)
-picks l =
-    subst (λ (n : ℕ). Picks n (picked l)) (entries-many (start l))
-    (brings-picks (entries (start l)) (each (start l)) (picked l) (l .loop .i) (l .loop .inv .0))
+-- what is answered of the indexes so far
+picked : (l : tie.At-loop Inv-loop μ-loop) (r : Entries) → r .count ≡ l .loop .n → PickedAs (start l .args .target .count) r (l .loop .indexes)
+picked l =
+    brings-picked (entries (start l)) (each (start l)) (l .loop .indexes) (l .loop .n) (l .loop .i) (l .loop .inv .0) _ (entries-many (start l))
 
 -- the list has at most 64 entries
 few : (l : tie.At-loop Inv-loop μ-loop) → l .before .list-of .result .count ≤ 64
@@ -64,7 +60,7 @@ below t = subst (λ (n : Names). t .before .loop .i < n .count) (t .before .befo
 loop-holds : tie.Need-loop-holds Inv-loop μ-loop
 loop-holds c =
     let s = c .before .before .before in
-    (brings-none (entries s) (each s) _ (record { size = refl; few = omega arith }) refl, omega arith)
+    (brings-none (entries s) (each s) _ (s .pre .2), omega arith)
 
 bring-requires : tie.Need-bring-requires Inv-loop μ-loop
 bring-requires c κs = (start (c .before) .pre .0, below c)
@@ -125,7 +121,7 @@ room t =
 push-index-requires : tie.Need-push-index-requires Inv-loop μ-loop
 push-index-requires c κs =
     let t = c .before .before .before .before .before .before .before .before .before .before in
-    (t .before .loop .inv .0 .whole .size, room t .0)
+    (t .before .loop .inv .0 .size, room t .0)
 
 loop-again : tie.Need-loop-again Inv-loop μ-loop
 loop-again c =
@@ -134,9 +130,9 @@ loop-again c =
     let t = x .before .before .before in
     let l = t .before in
     let e = c .push-index .ensures in (
-      brings-pair (entries (start l)) (each (start l)) (picked l) (l .loop .i) (l .loop .inv .0) _
+      brings-pair (entries (start l)) (each (start l)) (l .loop .indexes) (l .loop .n) (l .loop .i) (l .loop .inv .0) _ _
           (spelledIn (now (start l .args .block)) (x .name .given .0 .0)) (k .place .given .0 .0) (brought-is x) (placed k)
-          (record { size = e .0; few = omega (arith, e .2, room t .0) }) (e .1) (e .2),
+          (e .0) (e .1) (e .2) (room t .0),
       omega (arith, t .loop-test .taken),
     )
 
@@ -146,8 +142,8 @@ returns c =
     let x = d .before .before .before in
     let t = x .before .before .before in
     let l = t .before in (
-      picks l,
-      brings-missing (entries (start l)) (each (start l)) (picked l) (l .loop .i) (l .loop .inv .0)
+      picked l _ refl,
+      brings-missing (entries (start l)) (each (start l)) (l .loop .indexes) (l .loop .n) (l .loop .i) (l .loop .inv .0)
           (spelledIn (now (start l .args .block)) (x .name .given .0 .0)) (listOf (start l .args .layout) (start l .args .source) .count) (below t)
           (brought-is x) (found-nowhere _ (sym (found-is d) ∙ c .enum-told .given .1)),
     )
@@ -157,7 +153,7 @@ loop-again-2 c =
     let r = c .before .before in
     let t = r .before in
     let l = t .before in (
-      brings-nothing (entries (start l)) (each (start l)) (picked l) (l .loop .i) (l .loop .inv .0)
+      brings-nothing (entries (start l)) (each (start l)) (l .loop .indexes) (l .loop .n) (l .loop .i) (l .loop .inv .0)
           (sym (r .bring .ensures .same) ∙ ap (broughtAs (now (start l .args .block))) (c .enum-told2 .given .1)),
       omega (arith, t .loop-test .taken),
     )
@@ -166,8 +162,8 @@ returns-2 : tie.Need-returns-2 Inv-loop μ-loop
 returns-2 c =
     let l = c .before in
     let all : l .loop .i ≡ l .before .list-of .result .count = omega (arith, c .loop-test .left, l .loop .inv .1) in (
-      picks l,
-      brings-end (entries (start l)) (each (start l)) (picked l) (l .loop .i) (l .loop .inv .0)
+      picked l _ refl,
+      brings-end (entries (start l)) (each (start l)) (l .loop .indexes) (l .loop .n) (l .loop .i) (l .loop .inv .0)
           (listOf (start l .args .layout) (start l .args .source) .count)
           (all ∙ ap (λ (n : Names). n .count) (l .before .list-of .ensures)),
     )

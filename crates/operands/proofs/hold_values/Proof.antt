@@ -1,9 +1,9 @@
 -- `operands::hold_values` meets its contract: in each turn, the words of the entries so far are held, what is picked are their indexes, and the
 -- next entry stands at the cursor. Assumes nothing.
-use mathlib.Core.Path.{_≡_, refl, sym, ap, _∙_, subst}
+use mathlib.Core.Path.{_≡_, refl, sym, ap, _∙_}
 use mathlib.Core.List.{List, [], _∷_}
 use mathlib.Core.Option.{some}
-use Prim.Native.Nat.{ℕ, _-_, _≤_, _<_}
+use Prim.Native.Nat.{ℕ, _-_, _<_}
 use native.Mathlib.Omega.{arith}
 use denote.Ref.{now}
 use borrow.Author.Needs.{needs}
@@ -17,16 +17,16 @@ use Rattle.context.proofs.Pairs.{names-length}
 use Rattle.context.proofs.Places.{found-at, found-nowhere}
 use Rattle.lists.proofs.Filling.{Come, none-come, next-stands, next-come}
 use Rattle.symbols.specs.Brings.{broughtBy, spelledIn}
-use Rattle.operands.specs.declared.Picked.{Picked}
-use Rattle.operands.specs.Picked.{Picks}
-use Rattle.operands.proofs.Bringing.{HeldSoFar, brings-none, brings-picks, brings-pair, brings-missing, brings-end}
+use Rattle.operands.specs.declared.Entries.{Entries}
+use Rattle.operands.specs.Picked.{PickedAs}
+use Rattle.operands.proofs.Bringing.{HeldSoFar, brings-none, brings-picked, brings-pair, brings-missing, brings-end}
 use Rattle.operands.proofs.Values.{words, valueAt, values-brought, value-here}
 use Rattle.operands.proofs.hold_values.Statement.{statement}
 use Rattle.operands.proofs.hold_values.Tie as tie
 
 abbrev Inv-loop : tie.InvT-loop
 Inv-loop text classes block lists items target indexes₀ n₀ i₀ cur₀ indexes n i cur =
-    HeldSoFar (namesIn block lists target) (valueAt text items) (record { count = n; indexes = indexes }) i × Come text items i (cur .at)
+    HeldSoFar (namesIn block lists target) (valueAt text items) indexes n i × Come text items i (cur .at)
 
 abbrev μ-loop : tie.MeasureT-loop
 μ-loop text classes block lists items target indexes₀ n₀ i₀ cur₀ indexes n i cur = items .count - i
@@ -48,19 +48,15 @@ module _ (s : tie.Start Inv-loop μ-loop) where
   as-values : held entries (accepted (broughtBy each (s .args .items .count))) ≡ held entries (accepted (words (now (s .args .text)) (s .args .items)))
   as-values = ap (λ (ws : List (List ℕ)). held entries (accepted ws)) (values-brought (now (s .args .text)) (s .args .items) (s .pre .1))
 
--- what is picked so far
-abbrev picked : tie.At-loop Inv-loop μ-loop → Picked
-picked l = record { count = l .loop .n; indexes = l .loop .indexes }
-
-picks : (l : tie.At-loop Inv-loop μ-loop) → Picks (start l .args .target .count) (picked l)
-picks l =
-    subst (λ (n : ℕ). Picks n (picked l)) (entries-many (start l))
-    (brings-picks (entries (start l)) (each (start l)) (picked l) (l .loop .i) (l .loop .inv .0))
+-- what is answered of the indexes so far
+picked : (l : tie.At-loop Inv-loop μ-loop) (r : Entries) → r .count ≡ l .loop .n → PickedAs (start l .args .target .count) r (l .loop .indexes)
+picked l =
+    brings-picked (entries (start l)) (each (start l)) (l .loop .indexes) (l .loop .n) (l .loop .i) (l .loop .inv .0) _ (entries-many (start l))
 
 loop-holds : tie.Need-loop-holds Inv-loop μ-loop
 loop-holds c =
     let s = c .before .before .before .before in (
-      brings-none (entries s) (each s) _ (record { size = refl; few = omega arith }) refl,
+      brings-none (entries s) (each s) _ (s .pre .3),
       none-come (now (s .args .text)) (s .args .items),
     )
 
@@ -124,11 +120,11 @@ room t =
     (omega (arith, f, h, m), omega (arith, f, h))
 
 -- from the index, back to the turn
-abbrev turn : tie.After-indexes Inv-loop μ-loop → tie.Then1 Inv-loop μ-loop
+abbrev turn : tie.After-push-index-arg Inv-loop μ-loop → tie.Then1 Inv-loop μ-loop
 turn c = c .before .before .before .before .before .before .before .before
 
 push-index-requires : tie.Need-push-index-requires Inv-loop μ-loop
-push-index-requires c κs = (turn c .before .before .loop .inv .0 .whole .size, room (turn c) .0)
+push-index-requires c κs = (turn c .before .before .loop .inv .0 .size, room (turn c) .0)
 
 past-comma-requires : tie.Need-past-comma-requires Inv-loop μ-loop
 past-comma-requires c κs = start (turn (c .before) .before .before) .pre .0
@@ -142,9 +138,9 @@ loop-again c =
     let l = t .before .before in
     let s = start l in
     let p = q .push-index .ensures in (
-      brings-pair (entries s) (each s) (picked l) (l .loop .i) (l .loop .inv .0) _
+      brings-pair (entries s) (each s) (l .loop .indexes) (l .loop .n) (l .loop .i) (l .loop .inv .0) _ _
           (spelledIn (now (s .args .text)) (e .entry-at .result .name)) (k .place .given .0 .0) (brought-is e) (placed k)
-          (record { size = p .0; few = omega (arith, p .2, room t .0) }) (p .1) (p .2),
+          (p .0) (p .1) (p .2) (room t .0),
       next-come (now (s .args .text)) (s .args .items) (l .loop .i) (l .loop .cur .at) (s .pre .1) (l .loop .inv .1) (t .if1 .taken)
           (e .entry-at .result) (e .entry-at .ensures) _ (c .past-comma .ensures),
     )
@@ -156,8 +152,8 @@ returns c =
     let t = e .before in
     let l = t .before .before in
     let s = start l in (
-      picks l,
-      brings-missing (entries s) (each s) (picked l) (l .loop .i) (l .loop .inv .0)
+      picked l _ refl,
+      brings-missing (entries s) (each s) (l .loop .indexes) (l .loop .n) (l .loop .i) (l .loop .inv .0)
           (spelledIn (now (s .args .text)) (e .entry-at .result .name)) (s .args .items .count) (t .if1 .taken) (brought-is e)
           (found-nowhere _ (sym (found-is d) ∙ c .enum-told .given .1))
           ∙ as-values s,
@@ -168,8 +164,8 @@ returns-2 c =
     let l = c .before .before in
     let s = start l in
     let all : l .loop .i ≡ s .args .items .count = omega (arith, c .if1 .left, l .loop .inv .1 .most) in (
-      picks l,
-      brings-end (entries s) (each s) (picked l) (l .loop .i) (l .loop .inv .0) (s .args .items .count) all ∙ as-values s,
+      picked l _ refl,
+      brings-end (entries s) (each s) (l .loop .indexes) (l .loop .n) (l .loop .i) (l .loop .inv .0) (s .args .items .count) all ∙ as-values s,
     )
 
 pub hold-values-spec : {M : Type 1} → statement M
