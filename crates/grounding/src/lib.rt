@@ -6,7 +6,6 @@ ghost use mathlib.Core.List.{List, [], _∷_, _++_, map};
 ghost use Prim.Native.Nat.{ℕ, _+_, _*_, _≤_, _<_};
 ghost use lib.ListN.{length, getD};
 ghost use Rattle.text.specs.Bytes.{countUp};
-ghost use Rattle.tokens.specs.Class.{classTable};
 ghost use Rattle.tokens.specs.Spelling.{spellAll};
 ghost use Rattle.labels.specs.Label.{labelsOf, keywords};
 ghost use Rattle.labels.specs.Table.{labelTable, keywordTable};
@@ -29,7 +28,6 @@ use labels::Keywords;
 use labels::Labels;
 use parts::Part;
 use parts::Parts;
-use tokens::Classes;
 
 // All modes of a family, packed.
 fn whole_family(family: Family) -> u32
@@ -229,7 +227,6 @@ fn put_sign(operator: u32, out: &mut [u8], at: usize) -> usize
 // piece: no `Parts` are made and taken apart again.
 pub fn put_group(
     block: &[u8],
-    classes: &Classes,
     lists: &[u32],
     labels: &Labels,
     keys: &Keywords,
@@ -242,7 +239,7 @@ pub fn put_group(
     out: &mut [u8],
     at: usize,
 ) -> usize
-    requires { ⌜ (now classes ≡ classTable) × (now labels ≡ labelTable) × (now keys ≡ keywordTable) × Stands (now block) (now lists) layout
+    requires { ⌜ (now labels ≡ labelTable) × (now keys ≡ keywordTable) × Stands (now block) (now lists) layout
         × (parameter < layout .parameters .count) × (covariate < covariatesOf layout .count)
         × Room at (spellAll (statementShapes
         (groupStatement (handedContext (now block) (now lists)) parameter covariate (places packed) operator optional))) ⌝ }

@@ -3,7 +3,6 @@ ghost use mathlib.Core.Path.{_≡_};
 ghost use mathlib.Core.List.{map};
 ghost use Prim.Native.Nat.{_≤_};
 ghost use lib.ListN.{take};
-ghost use Rattle.tokens.specs.Class.{classTable};
 ghost use Rattle.labels.specs.Table.{labelTable, keywordTable};
 ghost use Rattle.writing.specs.Written.{Written};
 ghost use Rattle.render.proofs.Pieces.{restOf};
@@ -15,13 +14,11 @@ ghost use Rattle.group_text.specs.Known.{GroupsKnown};
 use context::Layout;
 use labels::Keywords;
 use labels::Labels;
-use tokens::Classes;
 
 // The ground COVARIATEs of the groups of so many effects, where other statements stay before them. A group is listed by two numbers: its
 // own, and its forms.
 pub fn put_groups(
     block: &[u8],
-    classes: &Classes,
     lists: &[u32],
     labels: &Labels,
     keys: &Keywords,
@@ -34,7 +31,7 @@ pub fn put_groups(
     out: &mut [u8],
     at: usize,
 ) -> usize
-    requires { ⌜ (now classes ≡ classTable) × (now labels ≡ labelTable) × (now keys ≡ keywordTable) × Stands (now block) (now lists) layout
+    requires { ⌜ (now labels ≡ labelTable) × (now keys ≡ keywordTable) × Stands (now block) (now lists) layout
         × GroupsKnown (handedContext (now block) (now lists)) (now work) (now listed) count groups × (before ≤ 256) × (at ≤ 4294967296) ⌝ }
     ensures { λ r. ⌜ Written (now (out .entry)) at
         (restOf before (groundEffects (handedContext (now (block .entry)) (now (lists .entry))) (map effectOf (take count (now (work .entry))))))
@@ -48,7 +45,6 @@ pub fn put_groups(
         next = render::put_joint(before + j, out, next);
         next = grounding::put_group(
             block,
-            classes,
             lists,
             labels,
             keys,

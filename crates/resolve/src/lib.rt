@@ -90,7 +90,6 @@ fn resolve_short(
     };
     settling::settle_few(
         block,
-        classes,
         lists,
         labels,
         keys,
@@ -153,7 +152,6 @@ fn resolve_long(
     };
     match settling::settle_many(
         block,
-        classes,
         lists,
         labels,
         keys,

@@ -2,7 +2,6 @@
 ghost use mathlib.Core.Path.{_≡_};
 ghost use Prim.Native.Nat.{_+_, _≤_};
 ghost use lib.ListN.{length};
-ghost use Rattle.tokens.specs.Class.{classTable};
 ghost use Rattle.labels.specs.Table.{labelTable, keywordTable};
 ghost use Rattle.reading.specs.Answer.{refused};
 ghost use Rattle.resolving.specs.Resolve as definition;
@@ -19,7 +18,6 @@ use labels::Keywords;
 use labels::Labels;
 use merging::Grouped;
 use merging::Outcome;
-use tokens::Classes;
 
 // How many bytes the ground text has, and how many effects and notes there are.
 pub struct Lengths {
@@ -65,7 +63,6 @@ pub enum Few {
 // The answer of grouped effects, where what stays stands in `made` already: the groups are written behind it, and all is put out if there is room.
 fn put_made(
     block: &[u8],
-    classes: &Classes,
     lists: &[u32],
     labels: &Labels,
     keys: &Keywords,
@@ -81,7 +78,7 @@ fn put_made(
     work: &[u32],
     listed: &[u32],
 ) -> Few
-    requires { ⌜ (now classes ≡ classTable) × (now labels ≡ labelTable) × (now keys ≡ keywordTable) × Stands (now block) (now lists) layout
+    requires { ⌜ (now labels ≡ labelTable) × (now keys ≡ keywordTable) × Stands (now block) (now lists) layout
         × FewGrounding (handedContext (now block) (now lists)) tally (now dropped) (now work) (now listed) count groups (now made) ⌝ }
     ensures { λ r. ⌜ ((g : FewGrounding (handedContext (now (block .entry)) (now (lists .entry))) tally (now (dropped .entry)) (now (work .entry))
         (now (listed .entry)) count groups (now (made .entry)))
@@ -93,7 +90,6 @@ fn put_made(
     }
     let end = group_text::put_groups(
         block,
-        classes,
         lists,
         labels,
         keys,
@@ -138,7 +134,6 @@ pub const FEW_TERMS: usize = 32;
 // The answer of what the statements bring, if that is few terms: they are merged and grouped by scans.
 pub fn settle_few(
     block: &[u8],
-    classes: &Classes,
     lists: &[u32],
     labels: &Labels,
     keys: &Keywords,
@@ -151,7 +146,7 @@ pub fn settle_few(
     notes: &mut [[u8; 2]],
     work: &mut [u32],
 ) -> Few
-    requires { ⌜ (now classes ≡ classTable) × (now labels ≡ labelTable) × (now keys ≡ keywordTable) × Stands (now block) (now lists) layout
+    requires { ⌜ (now labels ≡ labelTable) × (now keys ≡ keywordTable) × Stands (now block) (now lists) layout
         × FewThere (handedContext (now block) (now lists)) tally (now dropped) (now work) (now made) × (2048 ≤ length (now work)) ⌝ }
     ensures { λ r. ⌜ ((b : FewThere (handedContext (now (block .entry)) (now (lists .entry))) tally (now (dropped .entry)) (now (work .entry))
         (now (made .entry)))
@@ -168,7 +163,6 @@ pub fn settle_few(
             let groups = merging_few::group_few(work, count, &mut listed);
             put_made(
                 block,
-                classes,
                 lists,
                 labels,
                 keys,
@@ -192,7 +186,6 @@ pub fn settle_few(
 // of `merging`.
 pub fn settle_many(
     block: &[u8],
-    classes: &Classes,
     lists: &[u32],
     labels: &Labels,
     keys: &Keywords,
@@ -205,7 +198,7 @@ pub fn settle_many(
     notes: &mut [[u8; 2]],
     bench: &mut [u32],
 ) -> Few
-    requires { ⌜ (now classes ≡ classTable) × (now labels ≡ labelTable) × (now keys ≡ keywordTable) × Stands (now block) (now lists) layout
+    requires { ⌜ (now labels ≡ labelTable) × (now keys ≡ keywordTable) × Stands (now block) (now lists) layout
         × FewThere (handedContext (now block) (now lists)) tally (now dropped) (now bench) (now made) × (6656 ≤ length (now bench)) ⌝ }
     ensures { λ r. ⌜ ((b : FewThere (handedContext (now (block .entry)) (now (lists .entry))) tally (now (dropped .entry)) (now (bench .entry))
         (now (made .entry)))
@@ -230,7 +223,6 @@ pub fn settle_many(
     let work = &bench[..];
     put_made(
         block,
-        classes,
         lists,
         labels,
         keys,

@@ -93,7 +93,7 @@ parameter-found c =
     let s = head-start (c .before .before .before .before) in
     c .name-at .ensures
     ∙ ap (λ (l : List (List ℕ)). getD l (s .args .parameter) [])
-    (sym (parameters-are (now (s .args .block)) (now (s .args .lists)) (s .args .layout) (s .pre .3)))
+    (sym (parameters-are (now (s .args .block)) (now (s .args .lists)) (s .args .layout) (s .pre .2)))
 
 covariate-found : (c : tie.After-name-at2) → now (c .name-at2 .result) ≡ covariate (comma-start (c .before .before .before .before .before))
 covariate-found c =
@@ -101,7 +101,7 @@ covariate-found c =
     c .name-at2 .ensures
     ∙ rw (c .before .covariates .ensures)
     (ap (λ (l : List (List ℕ)). getD l (s .args .covariate) [])
-    (sym (covariates-are (now (s .args .block)) (now (s .args .lists)) (s .args .layout) (s .pre .3))))
+    (sym (covariates-are (now (s .args .block)) (now (s .args .lists)) (s .args .layout) (s .pre .2))))
 
 -- What is left at the start, and behind each piece.
 
@@ -144,59 +144,59 @@ put-head-requires : tie.Need-put-head-requires
 unfolding keywords
 put-head-requires c κs =
     let s = c .before .before .before .before in
-    (s .pre .2, omega arith, room-first (head s) (from-parameter s) (s .pre .6) (at-start s))
+    (s .pre .1, omega arith, room-first (head s) (from-parameter s) (s .pre .5) (at-start s))
 
 name-at-requires : tie.Need-name-at-requires
 name-at-requires c κs =
     let s = head-start (c .before .before .before) in
-    (s .pre .4, parameters-sound (now (s .args .block)) (now (s .args .lists)) (s .args .layout) (s .pre .3))
+    (s .pre .3, parameters-sound (now (s .args .block)) (now (s .args .lists)) (s .args .layout) (s .pre .2))
 
 put-all-requires : tie.Need-put-all-requires
 put-all-requires c κs =
     let h = c .before .before .before .before in
     let s = head-start h in
-    room-same _ (sym (parameter-found c)) (room-first (parameter s) (bytes "," ++ from-covariate s) (s .pre .6) (behind-head h))
+    room-same _ (sym (parameter-found c)) (room-first (parameter s) (bytes "," ++ from-covariate s) (s .pre .5) (behind-head h))
 
 put-requires : tie.Need-put-requires
 put-requires c κs =
     let h = c .before .before .before in
     let s = parameter-start h in
-    room-first (bytes ",") (from-covariate s) (s .pre .6) (behind-parameter h)
+    room-first (bytes ",") (from-covariate s) (s .pre .5) (behind-parameter h)
 
 name-at-requires-2 : tie.Need-name-at-requires-2
 name-at-requires-2 c κs =
     let s = comma-start (c .before .before .before .before) in
-    rw (c .covariates .ensures) (s .pre .5, covariates-sound (now (s .args .block)) (now (s .args .lists)) (s .args .layout) (s .pre .3))
+    rw (c .covariates .ensures) (s .pre .4, covariates-sound (now (s .args .block)) (now (s .args .lists)) (s .args .layout) (s .pre .2))
 
 put-all-requires-2 : tie.Need-put-all-requires-2
 put-all-requires-2 c κs =
     let h = c .before .before .before .before .before in
     let s = comma-start h in
-    room-same _ (sym (covariate-found c)) (room-first (covariate s) (bytes "," ++ from-effects s) (s .pre .6) (behind-comma h))
+    room-same _ (sym (covariate-found c)) (room-first (covariate s) (bytes "," ++ from-effects s) (s .pre .5) (behind-comma h))
 
 put-requires-2 : tie.Need-put-requires-2
 put-requires-2 c κs =
     let h = c .before .before .before in
     let s = covariate-start h in
-    room-first (bytes ",") (from-effects s) (s .pre .6) (behind-covariate h)
+    room-first (bytes ",") (from-effects s) (s .pre .5) (behind-covariate h)
 
 put-modes-requires : tie.Need-put-modes-requires
 unfolding modesIn
 put-modes-requires c κs =
     let h = c .before .before .before in
     let s = comma-start-2 h in
-    (s .pre .1, room-first (effects s) (from-sign s) (s .pre .6) (behind-comma-2 h))
+    (s .pre .0, room-first (effects s) (from-sign s) (s .pre .5) (behind-comma-2 h))
 
 put-sign-requires : tie.Need-put-sign-requires
 put-sign-requires c κs =
     let h = c .before .before .before in
     let s = effects-start h in
-    room-first (signBytes (s .args .operator)) (bytes ")") (s .pre .6) (behind-effects h)
+    room-first (signBytes (s .args .operator)) (bytes ")") (s .pre .5) (behind-effects h)
 
 put-requires-3 : tie.Need-put-requires-3
 put-requires-3 c κs =
     let h = c .before .before .before in
-    room-left {left = bytes ")"} (sign-start h .pre .6) (behind-sign h)
+    room-left {left = bytes ")"} (sign-start h .pre .5) (behind-sign h)
 
 same-length : tie.Need-same-length
 same-length c =

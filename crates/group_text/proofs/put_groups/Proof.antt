@@ -32,13 +32,13 @@ use Rattle.group_text.proofs.put_groups.Statement.{statement}
 use Rattle.group_text.proofs.put_groups.Tie as tie
 
 abbrev Inv-loop : tie.InvT-loop
-Inv-loop block classes lists labels keys layout work listed count groups before out₀ at j₀ next₀ out j next =
+Inv-loop block lists labels keys layout work listed count groups before out₀ at j₀ next₀ out j next =
     (j ≤ groups)
     × Going out₀ at (restOf before (groundEffects (handedContext block lists) (map effectOf (take count work)))) out next
     (leftFrom (handedContext block lists) (map effectOf (take count work)) (before + j) j)
 
 abbrev μ-loop : tie.MeasureT-loop
-μ-loop block classes lists labels keys layout work listed count groups before out₀ at j₀ next₀ out j next = groups - j
+μ-loop block lists labels keys layout work listed count groups before out₀ at j₀ next₀ out j next = groups - j
 
 abbrev startOf : tie.At-loop Inv-loop μ-loop → tie.Start Inv-loop μ-loop
 startOf l = l .before .before .before .before .before .before
@@ -61,7 +61,7 @@ loop-holds c =
 index-below : (t : tie.In-loop Inv-loop μ-loop) → t .before .loop .j < 256
 index-below t =
     let l = t .before in
-    omega (arith, t .loop-test .taken, startOf l .pre .4 .stand .few)
+    omega (arith, t .loop-test .taken, startOf l .pre .3 .stand .few)
 
 -- the statement of the group, and what is left behind it
 group-ahead :
@@ -75,24 +75,24 @@ group-ahead :
 group-ahead t =
     let l = t .before in
     let s = startOf l in
-    group-next (contextOf s) (now (s .args .work)) (now (s .args .listed)) (s .args .count) (s .args .groups) (s .pre .4) (s .args .before)
+    group-next (contextOf s) (now (s .args .work)) (now (s .args .listed)) (s .args .count) (s .args .groups) (s .pre .3) (s .args .before)
     (l .loop .j) (t .loop-test .taken)
 
 room-for-all : (s : tie.Start Inv-loop μ-loop) → Room (s .args .at) (restOf (s .args .before) (groundEffects (contextOf s) (effectsOf s)))
 room-for-all s =
-    groups-room (contextOf s) (now (s .args .work)) (now (s .args .listed)) (s .args .count) (s .args .groups) (s .pre .4)
-    (parameters-short (now (s .args .block)) (now (s .args .lists)) (s .args .layout) (s .pre .3))
-    (covariates-short (now (s .args .block)) (now (s .args .lists)) (s .args .layout) (s .pre .3))
-    (s .args .before) (s .args .at) (s .pre .6)
+    groups-room (contextOf s) (now (s .args .work)) (now (s .args .listed)) (s .args .count) (s .args .groups) (s .pre .3)
+    (parameters-short (now (s .args .block)) (now (s .args .lists)) (s .args .layout) (s .pre .2))
+    (covariates-short (now (s .args .block)) (now (s .args .lists)) (s .args .layout) (s .pre .2))
+    (s .args .before) (s .args .at) (s .pre .5)
 
 -- its two numbers are listed
 index-room : (t : tie.In-loop Inv-loop μ-loop) → let l = t .before in 2 * l .loop .j + 1 < length (now (startOf l .args .listed))
-index-room t = let l = t .before in omega (arith, t .loop-test .taken, startOf l .pre .4 .room)
+index-room t = let l = t .before in omega (arith, t .loop-test .taken, startOf l .pre .3 .room)
 
 add-put-joint : tie.Need-add-put-joint Inv-loop μ-loop
 add-put-joint c =
     let t = c .before .before in
-    omega (arith, index-below t, startOf (t .before) .pre .5)
+    omega (arith, index-below t, startOf (t .before) .pre .4)
 
 put-joint-requires : tie.Need-put-joint-requires Inv-loop μ-loop
 put-joint-requires c κs =
@@ -108,14 +108,13 @@ put-group-requires c κs =
     let l = t .before in
     let s = startOf l in
     let e =
-    group-entered (contextOf s) (now (s .args .work)) (now (s .args .listed)) (s .args .count) (s .args .groups) (s .pre .4) (l .loop .j)
+    group-entered (contextOf s) (now (s .args .work)) (now (s .args .listed)) (s .args .count) (s .args .groups) (s .pre .3) (l .loop .j)
     (t .loop-test .taken) in (
       s .pre .0,
       s .pre .1,
       s .pre .2,
-      s .pre .3,
-      omega (arith, e .0, parameters-many (now (s .args .block)) (now (s .args .lists)) (s .args .layout) (s .pre .3)),
-      omega (arith, e .1, covariates-many (now (s .args .block)) (now (s .args .lists)) (s .args .layout) (s .pre .3)),
+      omega (arith, e .0, parameters-many (now (s .args .block)) (now (s .args .lists)) (s .args .layout) (s .pre .2)),
+      omega (arith, e .1, covariates-many (now (s .args .block)) (now (s .args .lists)) (s .args .layout) (s .pre .2)),
       room-first (groupBytes (contextOf s) (now (s .args .listed)) (l .loop .j)) _ (room-for-all s)
           (further (told (group-ahead t) (l .loop .inv .1)) (p .put-joint .ensures)),
     )
@@ -147,7 +146,7 @@ returns c =
     let s = startOf l in
     no-more
     (told
-    (none-next (contextOf s) (now (s .args .work)) (now (s .args .listed)) (s .args .count) (s .args .groups) (s .pre .4) (s .args .before + l .loop .j) (l .loop .j)
+    (none-next (contextOf s) (now (s .args .work)) (now (s .args .listed)) (s .args .count) (s .args .groups) (s .pre .3) (s .args .before + l .loop .j) (l .loop .j)
     (omega (arith, c .loop-test .left)))
     (l .loop .inv .1))
 

@@ -102,7 +102,6 @@ settle-many-requires c κs =
     let k = taken-at t in
     let s = start k in
     let h = subst (TakenAs _ _ _ _ _ _ _ _ _ _ _) (t .tally .given .1) (k .take-text .ensures) in (
-      s .pre .0,
       s .pre .1,
       s .pre .2,
       record { is = h .handed; there = l .read-layout .ensures },
@@ -117,8 +116,8 @@ answered :
     let t = tallied-at r in
     let a = start (taken-at t) .args in
     Answers (mergeAndGround (handedContext (now (a .block)) (now (a .lists))) (there t .there .what)) (now (a .ground)) (a .room) (now (a .notes))
-    (r .settle-many .last .1 .1 .1 .1 .1 .1 .1 .1 .1 .0) (r .settle-many .last .1 .1 .1 .1 .1 .1 .1 .1 .1 .1 .1 .0)
-    (r .settle-many .last .1 .1 .1 .1 .1 .1 .1 .1 .1 .1 .1 .1 .0) (x .resolved .given .0 .0)
+    (r .settle-many .last .1 .1 .1 .1 .1 .1 .1 .1 .0) (r .settle-many .last .1 .1 .1 .1 .1 .1 .1 .1 .1 .1 .0)
+    (r .settle-many .last .1 .1 .1 .1 .1 .1 .1 .1 .1 .1 .1 .0) (x .resolved .given .0 .0)
 unfolding FewAnswers
 answered x =
     let r = x .before .before .before .before .before .before .before in

@@ -51,7 +51,6 @@ settle-few-requires c κs =
     let k = taken-at t in
     let s = start k in
     let h = subst (TakenAs _ _ _ _ _ _ _ _ _ _ _) (t .tally .given .1) (k .take-text .ensures) in (
-      s .pre .0,
       s .pre .1,
       s .pre .2,
       record { is = h .handed; there = l .read-layout .ensures },

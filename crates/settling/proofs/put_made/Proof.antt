@@ -46,7 +46,7 @@ abbrev tested-at : tie.After-note-count → tie.Else2
 tested-at n = n .before .before .before
 
 add-if1 : tie.Need-add-if1
-add-if1 c = let g = start c .pre .4 in omega (arith, g .tallied .few, g .known .stand .few)
+add-if1 c = let g = start c .pre .3 in omega (arith, g .tallied .few, g .known .stand .few)
 
 returns : tie.Need-returns
 unfolding FewAnswers Roomy
@@ -62,8 +62,8 @@ returns c =
 put-groups-requires : tie.Need-put-groups-requires
 put-groups-requires c κs =
     let s = start (c .before .before) in
-    let g = s .pre .4 in
-    (s .pre .0, s .pre .1, s .pre .2, s .pre .3, g .known, g .tallied .few, omega (arith, g .tallied .small))
+    let g = s .pre .3 in
+    (s .pre .0, s .pre .1, s .pre .2, g .known, g .tallied .few, omega (arith, g .tallied .small))
 
 module _ (p : tie.After-put-groups) (g : Given (start-of p)) where
   few-statements : length (outcome (context-of (start-of p)) (g .what) .statements) ≤ 256
@@ -90,10 +90,10 @@ returns-3 c =
     ((λ g. (refl, refl)), omega (arith, c .if3 .taken, c .before .if2 .left, same-room (written-at (c .before) .put-groups .ensures)))
 
 additive-requires : tie.Need-additive-requires
-additive-requires c κs = start-of (written-at (c .before)) .pre .4 .room
+additive-requires c κs = start-of (written-at (c .before)) .pre .3 .room
 
 note-count-requires : tie.Need-note-count-requires
-note-count-requires c κs = start-of (written-at (c .before .before)) .pre .4 .tallied .marked
+note-count-requires c κs = start-of (written-at (c .before .before)) .pre .3 .tallied .marked
 
 -- behind the tests of the ground space, the answer is accepted
 fine : (q : tie.Else2) (g : Given (start-of (written-at q)))
@@ -144,7 +144,7 @@ put-notes-requires c κs =
     let f = c .before .before .before .before .before .before in
     let n = f .before .before .before in
     let s = start-of (written-at (tested-at n)) in
-    (omega (arith, f .if6 .left, n .note-count .ensures), s .pre .4 .tallied .held)
+    (omega (arith, f .if6 .left, n .note-count .ensures), s .pre .3 .tallied .held)
 
 returns-7 : tie.Need-returns-7
 unfolding FewAnswers Roomy resolvedAs

@@ -31,7 +31,7 @@ returns c x = (refl, refl)
 settle-few-requires : tie.Need-settle-few-requires
 settle-few-requires c κs =
     let s = c .before .before .before .before .before .before .before .before .before in
-    (omega (arith, c .before .if1 .left), omega (arith, c .before .if1 .left, s .pre .5))
+    (omega (arith, c .before .if1 .left), omega (arith, c .before .if1 .left, s .pre .4))
 
 returns-2 : tie.Need-returns-2
 unfolding FewAnswers
@@ -48,7 +48,7 @@ group-few-requires c κs =
     let m = c .before .before .before .before .before .before .before in
     let y = merged-plain (m .settle-few .ensures) (x .1) in (
       omega (arith, y .0, m .before .before .if1 .left),
-      omega (arith, y .0, few-terms m, start-of m .pre .5, m .settle-few .ensures .kept .size),
+      omega (arith, y .0, few-terms m, start-of m .pre .4, m .settle-few .ensures .kept .size),
       y .1,
       omega arith,
     )
@@ -62,9 +62,8 @@ put-made-requires c κs =
       s .pre .0,
       s .pre .1,
       s .pre .2,
-      s .pre .3,
-      few-grounding (s .pre .4) (few-terms m) (m .settle-few .ensures) (x .0 .0) (x .1) (g .group-few .ensures) (m .before .before .if1 .left)
-          (s .pre .5) (omega arith),
+      few-grounding (s .pre .3) (few-terms m) (m .settle-few .ensures) (x .0 .0) (x .1) (g .group-few .ensures) (m .before .before .if1 .left)
+          (s .pre .4) (omega arith),
     )
 
 returns-3 : tie.Need-returns-3
@@ -78,7 +77,7 @@ returns-3 c t =
     (on-merged (t .there) (few-terms m) (m .settle-few .ensures) (x .0 .0) (x .1) (context-of (start-of m)))
     (r .put-made .ensures .0
     (few-grounding t (few-terms m) (m .settle-few .ensures) (x .0 .0) (x .1) (g .group-few .ensures) (m .before .before .if1 .left)
-    (start-of m .pre .5) (omega arith)))
+    (start-of m .pre .4) (omega arith)))
 
 pub settle-few-spec : {M : Type 1} → statement M
 settle-few-spec =

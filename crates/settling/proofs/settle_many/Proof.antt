@@ -29,7 +29,7 @@ returns c =
     )
 
 settle-requires : tie.Need-settle-requires
-settle-requires c κs = (c .before .if1 .left, c .before .before .before .before .before .before .before .before .before .pre .5)
+settle-requires c κs = (c .before .if1 .left, c .before .before .before .before .before .before .before .before .before .pre .4)
 
 -- few terms
 few-terms : (m : tie.After-settle) → start-of m .args .tally .terms ≤ 2048
@@ -53,7 +53,7 @@ group-requires c κs =
     let m = c .before .before .before .before .before .before in
     let s = start-of m in (
       omega (arith, few-terms m, merged-plain (m .settle .ensures) (x .1) .0),
-      omega (arith, s .pre .5, m .settle .ensures .kept .size),
+      omega (arith, s .pre .4, m .settle .ensures .kept .size),
       merged-plain (m .settle .ensures) (x .1) .1,
     )
 
@@ -75,7 +75,7 @@ sub-put-made : tie.Need-sub-put-made
 sub-put-made c =
     let g = c .before .before .before .before .before .before .before .before .before in
     let m = g .before .before .before .before .before .before .before in
-    omega (arith, start-of m .pre .5, m .settle .ensures .kept .size, g .group .ensures .kept .size)
+    omega (arith, start-of m .pre .4, m .settle .ensures .kept .size, g .group .ensures .kept .size)
 
 put-made-requires : tie.Need-put-made-requires
 put-made-requires c κs =
@@ -87,8 +87,7 @@ put-made-requires c κs =
       s .pre .0,
       s .pre .1,
       s .pre .2,
-      s .pre .3,
-      many-grounding (s .pre .4) (few-terms m) (m .settle .ensures) (x .0 .0) (x .1) (g .group .ensures) (y .1) (s .pre .5),
+      many-grounding (s .pre .3) (few-terms m) (m .settle .ensures) (x .0 .0) (x .1) (g .group .ensures) (y .1) (s .pre .4),
     )
 
 returns-4 : tie.Need-returns-4
@@ -104,7 +103,7 @@ returns-4 c =
           same-few _ _ _ _ _ _ _ _ (r .put-made .result)
           (on-merged (t .there) (few-terms m) (m .settle .ensures) (x .0 .0) (x .1) (context-of s))
           (r .put-made .ensures .0
-          (many-grounding t (few-terms m) (m .settle .ensures) (x .0 .0) (x .1) (g .group .ensures) (y .1) (s .pre .5)))),
+          (many-grounding t (few-terms m) (m .settle .ensures) (x .0 .0) (x .1) (g .group .ensures) (y .1) (s .pre .4)))),
       r .put-made .ensures .1,
     )
 
