@@ -1,7 +1,7 @@
 -- The LETs of a text's statements, gathered one after the other: of the statements so far they stand in the run and no two have one key, and whether
 -- one comes again is told by those that are left.
 -- Assumes nothing.
-use Prim.Native.Nat.{ℕ, zero, suc, _+_, _≤_}
+use Prim.Native.Nat.{ℕ, zero, suc, _+_, _-_, _≤_, _<_}
 use native.Mathlib.Nat.{not-suc-le-zero}
 use native.Mathlib.Numerals.{add-one}
 use native.Mathlib.Omega.{arith}
@@ -9,8 +9,8 @@ use mathlib.Core.Path.{_≡_, refl, _∙_, ap, sym, subst}
 use mathlib.Core.Bool.{Bool, true, false, cond, _||_}
 use mathlib.Core.List.{List, [], _∷_, _++_, append-nil}
 use mathlib.Core.Option.{Option, some, none}
-use lib.ListN.{drop}
-use lib.Seq.{append-snoc}
+use lib.ListN.{length, take, drop}
+use lib.Seq.{append-snoc, drop-drop}
 use Rattle.labels.specs.Word.{sameWord, oneLater}
 use Rattle.reading.specs.Statement.{Statement}
 use Rattle.resolving.specs.Lists.{any, again, againAfter}
@@ -102,6 +102,22 @@ none-gathered s ss run =
       left = refl;
     }
 
+-- where no LET stands from an index on, none stands from a later one on
+quiet-behind : (o : Option Definition) (ds : List (Option Definition)) → present (o ∷ ds) ≡ [] → present ds ≡ []
+quiet-behind none ds e = e
+quiet-behind (some d) ds e = let z : _≡_ {A = ℕ} 0 1 = cc in absurd (omega arith)
+
+quiet-tail : (ss : List Statement) (k : ℕ) → present (lets ss) ≡ [] → present (lets (drop k ss)) ≡ []
+quiet-tail ss zero e = e
+quiet-tail [] (suc k) e = refl
+quiet-tail (x ∷ ss) (suc k) e = quiet-tail ss k (quiet-behind (defines x) (lets ss) e)
+
+pub still-quiet : (ss : List Statement) (end i : ℕ) → end ≤ i → present (lets (drop end ss)) ≡ [] → present (lets (drop i ss)) ≡ []
+still-quiet ss end i h e =
+    let k : i ≡ end + (i - end) = omega (arith, h) in
+    ap (λ (l : List Statement). present (lets l)) (ap (λ (k : ℕ). drop k ss) k ∙ sym (drop-drop (i - end) end ss))
+    ∙ quiet-tail (drop end ss) (i - end) e
+
 module _ {s : List ℕ} {ss : List Statement} {run : List ℕ} {n i : ℕ} (g : Gathering s ss run n i) where
   -- none is left
   pub all-gathered : present (lets (drop i ss)) ≡ [] → CollectedAll s ss run n
@@ -112,27 +128,32 @@ module _ {s : List ℕ} {ss : List Statement} {run : List ℕ} {n i : ℕ} (g : 
         once = sym (g .left) ∙ ap (further i) (none-again (g .seen) (lets (drop i ss)) q) ∙ further-none i;
       }
 
+  -- a statement that is no LET
+  pub other-passed : (x : Statement) → drop i ss ≡ x ∷ drop (suc i) ss → defines x ≡ none → Gathering s ss run n (suc i)
+  other-passed x h e =
+      let z : lets (drop i ss) ≡ none ∷ lets (drop (suc i) ss) =
+      ap lets h ∙ ap (λ (o : Option Definition). o ∷ lets (drop (suc i) ss)) e in
+      record {
+        fit = g .fit;
+        few = omega (arith, g .few);
+        are = ap (λ (l : List (Option Definition)). definitionsIn s run n ++ present l) (sym z) ∙ g .are;
+        seen = none ∷ g .seen;
+        keys = g .keys;
+        left =
+            ap (λ (t : Bool). further i (cond t (some 0) (oneLater (againAfter sameKey (none ∷ g .seen) (lets (drop (suc i) ss))))))
+            (sym (no-key (g .seen)))
+            ∙ ap (λ (l : List (Option Definition)). further i (againAfter sameKey (g .seen) l)) (sym z)
+            ∙ g .left;
+      }
+
   -- the statement at the index, and those behind it
   module _ (st : forms.Statement) (h : drop i ss ≡ statementIn s st ∷ drop (suc i) ss) where
     -- a statement that is no LET
     pub feature-passed : (f : Feature) → st ≡ form.Feature f → Gathering s ss run n (i + 1)
     unfolding statementIn
     feature-passed f e =
-        let z : lets (drop i ss) ≡ none ∷ lets (drop (suc i) ss) =
-        ap lets h ∙ ap (λ (x : forms.Statement). defines (statementIn s x) ∷ lets (drop (suc i) ss)) e in
         subst (Gathering s ss run n) (sym (add-one i))
-        (record {
-          fit = g .fit;
-          few = omega (arith, g .few);
-          are = ap (λ (l : List (Option Definition)). definitionsIn s run n ++ present l) (sym z) ∙ g .are;
-          seen = none ∷ g .seen;
-          keys = g .keys;
-          left =
-              ap (λ (t : Bool). further i (cond t (some 0) (oneLater (againAfter sameKey (none ∷ g .seen) (lets (drop (suc i) ss))))))
-              (sym (no-key (g .seen)))
-              ∙ ap (λ (l : List (Option Definition)). further i (againAfter sameKey (g .seen) l)) (sym z)
-              ∙ g .left;
-        })
+        (other-passed (statementIn s st) h (ap (λ (x : forms.Statement). defines (statementIn s x)) e))
 
     module _ (name : Name) (values : Items) (e : st ≡ form.Let name values) where
       abbrev this : Definition
@@ -186,6 +207,46 @@ module _ {s : List ℕ} {ss : List Statement} {run : List ℕ} {n i : ℕ} (g : 
                 ∙ sym (ap (λ (l : List Definition). hasKey l (x .key)) (p .definitions));
             left = told-left false (sym a ∙ b);
           })
+
+-- Where no LET stands before an index, gathering starts there.
+
+-- the last of some statements of which none is a LET
+record Other (ss : List Statement) (k : ℕ) : Type 0 where
+  x : Statement
+  first : drop k ss ≡ x ∷ drop (suc k) ss
+  no-let : defines x ≡ none
+  before : present (lets (take k ss)) ≡ []
+
+other-at : (ss : List Statement) (k : ℕ) → k < length ss → present (lets (take (suc k) ss)) ≡ [] → Other ss k
+other-at [] k h e = absurd (not-suc-le-zero h)
+other-at (y ∷ ss) zero h e = by (defines y) refl
+  where
+    by : (o : Option Definition) → defines y ≡ o → Other (y ∷ ss) 0
+    by none q = record { x = y; first = refl; no-let = q; before = refl }
+    by (some d) q =
+        let f : d ∷ [] ≡ [] = ap (λ (o : Option Definition). present (o ∷ [])) (sym q) ∙ e in
+        let z : _≡_ {A = ℕ} 0 1 = cc in
+        absurd (omega arith)
+other-at (y ∷ ss) (suc k) h e = by (defines y) refl (other-at ss k (omega (arith, h)) (quiet-behind (defines y) (lets (take (suc k) ss)) e))
+  where
+    by : (o : Option Definition) → defines y ≡ o → Other ss k → Other (y ∷ ss) (suc k)
+    by none q r =
+        record {
+          x = r .x;
+          first = r .first;
+          no-let = r .no-let;
+          before = ap (λ (o : Option Definition). present (o ∷ lets (take k ss))) q ∙ r .before;
+        }
+    by (some d) q r =
+        let f : d ∷ present (lets (take (suc k) ss)) ≡ [] = ap (λ (o : Option Definition). present (o ∷ lets (take (suc k) ss))) (sym q) ∙ e in
+        let z : _≡_ {A = ℕ} 0 1 = cc in
+        absurd (omega arith)
+
+pub started : (s : List ℕ) (ss : List Statement) (run : List ℕ) (k : ℕ) → k ≤ length ss → present (lets (take k ss)) ≡ [] → Gathering s ss run 0 k
+started s ss run zero h e = none-gathered s ss run
+started s ss run (suc k) h e =
+    let o = other-at ss k (omega (arith, h)) e in
+    other-passed (started s ss run k (omega (arith, h)) (o .before)) (o .x) (o .first) (o .no-let)
 
 -- the name of a LET that fits lies in the text, and its values can be read again
 let-fits : (s : List ℕ) (name : Name) (values : Items) → PartsFit s (apart (form.Let name values)) → InText s name × Listed s values

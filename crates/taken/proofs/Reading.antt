@@ -4,12 +4,12 @@ use Prim.Native.Nat.{ℕ, suc, _+_, _≤_, _<_}
 use native.Mathlib.Numerals.{add-one}
 use native.Mathlib.Omega.{arith}
 use mathlib.Core.Path.{_≡_, refl, _∙_, ap, sym, subst}
-use mathlib.Core.Bool.{Bool, true, false}
+use mathlib.Core.Bool.{Bool, true, false, cond}
 use mathlib.Core.List.{List, [], _∷_, _++_, map, map-append}
 use mathlib.Core.Logic.{_⊎_, inl, inr, ⊎-elim}
 use mathlib.Core.Option.{Option, some, none}
-use borrow.Author.Tests.{ltb-true, ltb-false}
-use lib.Dec.{ltb}
+use borrow.Author.Tests.{ltb-true, ltb-false, eqb-true}
+use lib.Dec.{ltb, eqb}
 use lib.ListN.{length, take, drop, set, getD, length-set, length-append, drop-of-length-le, List·getD-map}
 use lib.Seq.{take-all, take-append-le, drop-append-le, take-suc-set, getD-take, drop-cons}
 use Rattle.tokens.specs.declared.Cursor.{Cursor}
@@ -35,7 +35,7 @@ use Rattle.space.specs.Space.{formIn}
 use Rattle.space.specs.Fit.{Fit}
 use Rattle.space.proofs.Fitting.{one-shorter}
 use Rattle.taken.specs.declared.Again.{Again}
-use Rattle.taken.specs.Again.{endAfter, AgainAs}
+use Rattle.taken.specs.Again.{endAfter, startAfter, AgainAs}
 use Rattle.taken.specs.Collected.{present}
 
 lt-or-ge : (a b : ℕ) → (a < b) ⊎ (b ≤ a)
@@ -66,8 +66,9 @@ present-last [] = refl
 present-last (none ∷ ds) = present-last ds
 present-last (some d ∷ ds) = ap (λ (l : List Definition). d ∷ l) (present-last ds)
 
--- So many statements were read. The first 32 are kept; from `later` on those behind them are read again; and no LET stands from `end` on.
-pub record Reading (limit : ℕ) (s : List ℕ) (forms : List Form) (count cur later end : ℕ) : Type 0 where
+-- So many statements were read. The first 32 are kept; from `later` on those behind them are read again; and no LET stands before
+-- `start`, nor from `end` on.
+pub record Reading (limit : ℕ) (s : List ℕ) (forms : List Form) (count cur later start end : ℕ) : Type 0 where
   pub ss : List Statement
   pub read : readAt limit s 0 between 0 ≡ prependAll ss (readAt limit s count between cur)
   pub many : length ss ≡ count
@@ -77,10 +78,12 @@ pub record Reading (limit : ℕ) (s : List ℕ) (forms : List Form) (count cur l
   pub kept : take 32 ss ≡ map (formIn s) (take count forms)
   pub behind : 32 ≤ count → readAt limit s 32 between later ≡ prependAll (drop 32 ss) (readAt limit s count between cur)
   pub from : 32 ≤ count → 32 ≤ later
+  pub early : (start ≤ count) × (start ≤ 32)
+  pub calm : present (lets (take start ss)) ≡ []
   pub bound : end ≤ count
   pub quiet : present (lets (drop end ss)) ≡ []
 
-pub none-read : (limit : ℕ) (s : List ℕ) (forms : List Form) → length forms ≡ 32 → Reading limit s forms 0 0 0 0
+pub none-read : (limit : ℕ) (s : List ℕ) (forms : List Form) → length forms ≡ 32 → Reading limit s forms 0 0 0 0 0
 none-read limit s forms w =
     record {
       ss = [];
@@ -92,11 +95,13 @@ none-read limit s forms w =
       kept = refl;
       behind = λ h. absurd (omega (arith, h));
       from = λ h. absurd (omega (arith, h));
+      early = (omega arith, omega arith);
+      calm = refl;
       bound = omega arith;
       quiet = refl;
     }
 
-module _ {limit : ℕ} {s : List ℕ} {forms : List Form} {count cur later end : ℕ} (g : Reading limit s forms count cur later end) where
+module _ {limit : ℕ} {s : List ℕ} {forms : List Form} {count cur later start end : ℕ} (g : Reading limit s forms count cur later start end) where
   -- a refusal is that of all
   pub refused-read : (k p : ℕ) → readAt limit s count between cur ≡ refused k p → readAt limit s 0 between 0 ≡ refused k p
   refused-read k p e = g .read ∙ ap (prependAll (g .ss)) e ∙ prepend-refused (g .ss) k p
@@ -128,14 +133,33 @@ module _ {limit : ℕ} {s : List ℕ} {forms : List Form} {count cur later end :
               ∙ g .quiet,
         )
 
-    read-on : (forms' : List Form) (later' : ℕ)
+    -- what stands before `start` is no LET, where it stays, and where there was none so far
+    calm-same : (start ≤ suc count) × (present (lets (take start more)) ≡ [])
+    calm-same =
+        let b : start ≤ length (g .ss) = omega (arith, g .early .0, g .many) in
+        (omega (arith, g .early .0), ap (λ (l : List Statement). present (lets l)) (take-append-le start (g .ss) (this ∷ []) b) ∙ g .calm)
+
+    calm-all : endAfter st count end ≡ 0 → present (lets (take (count + 1) more)) ≡ []
+    calm-all z =
+        ap (λ (l : List Statement). present (lets l)) (take-all (count + 1) more (omega (arith, length-more)))
+        ∙ ap (λ (k : ℕ). present (lets (drop k more))) (sym z)
+        ∙ quiet-more st refl .1
+
+    calm-kept : count < 32 → (t : Bool) → eqb (endAfter st count end) 0 ≡ t
+        → let k = cond t (count + 1) start in
+        ((k ≤ suc count) × (k ≤ 32)) × (present (lets (take k more)) ≡ [])
+    calm-kept h true q = ((omega arith, omega (arith, h)), calm-all (eqb-true (endAfter st count end) 0 q))
+    calm-kept h false q = ((calm-same .0, g .early .1), calm-same .1)
+
+    read-on : (forms' : List Form) (later' start' : ℕ)
         → length forms' ≡ 32
         → take 32 more ≡ map (formIn s) (take (suc count) forms')
         → (32 ≤ suc count → readAt limit s 32 between later' ≡ prependAll (drop 32 more) (readAt limit s (suc count) between p))
         → (32 ≤ suc count → 32 ≤ later')
-        → Reading limit s forms' (count + 1) p later' (endAfter st count end)
-    read-on forms' later' w k b f =
-        subst (λ (c : ℕ). Reading limit s forms' c p later' (endAfter st count end)) (sym (add-one count))
+        → ((start' ≤ suc count) × (start' ≤ 32)) × (present (lets (take start' more)) ≡ [])
+        → Reading limit s forms' (count + 1) p later' start' (endAfter st count end)
+    read-on forms' later' start' w k b f c =
+        subst (λ (c : ℕ). Reading limit s forms' c p later' start' (endAfter st count end)) (sym (add-one count))
         (record {
           ss = more;
           read = g .read ∙ ap (prependAll (g .ss)) e ∙ sym (prepend-last (g .ss) this (readAt limit s (suc count) between p));
@@ -146,14 +170,17 @@ module _ {limit : ℕ} {s : List ℕ} {forms : List Form} {count cur later end :
           kept = k;
           behind = b;
           from = f;
+          early = c .0;
+          calm = c .1;
           bound = quiet-more st refl .0;
           quiet = quiet-more st refl .1;
         })
 
     -- it is kept
-    pub one-kept : count < 32 → Reading limit s (set forms count (record { statement = st })) (count + 1) p p (endAfter st count end)
+    pub one-kept : count < 32 → Reading limit s (set forms count (record { statement = st })) (count + 1) p p
+        (startAfter count start (endAfter st count end)) (endAfter st count end)
     one-kept h =
-        read-on (set forms count (record { statement = st })) p
+        read-on (set forms count (record { statement = st })) p (startAfter count start (endAfter st count end))
         (length-set forms count (record { statement = st }) ∙ g .wide)
         (take-all 32 more (omega (arith, length-more))
         ∙ ap (λ (l : List Statement). l ++ this ∷ []) (sym (take-all 32 (g .ss) (omega (arith, g .many))) ∙ g .kept)
@@ -165,14 +192,15 @@ module _ {limit : ℕ} {s : List ℕ} {forms : List Form} {count cur later end :
         ∙ ap (λ (l : List Statement). prependAll l (readAt limit s (suc count) between p))
         (sym (drop-of-length-le more {i = 32} (omega (arith, length-more)))))
         (λ q. omega (arith, g .few))
+        (calm-kept h (eqb (endAfter st count end) 0) refl)
 
     -- it is passed
-    pub one-passed : 32 ≤ count → Reading limit s forms (count + 1) p later (endAfter st count end)
+    pub one-passed : 32 ≤ count → Reading limit s forms (count + 1) p later start (endAfter st count end)
     one-passed h =
         let c : 32 ≤ length (g .ss) = omega (arith, g .many) in
         let w : length forms ≤ count = omega (arith, g .wide) in
         let w' : length forms ≤ suc count = omega (arith, g .wide) in
-        read-on forms later (g .wide)
+        read-on forms later start (g .wide)
         (take-append-le 32 (g .ss) (this ∷ []) c ∙ g .kept ∙ ap (map (formIn s)) (take-all count forms w ∙ sym (take-all (suc count) forms w')))
         (λ q.
         g .behind h
@@ -180,18 +208,21 @@ module _ {limit : ℕ} {s : List ℕ} {forms : List Form} {count cur later end :
         ∙ sym (prepend-last (drop 32 (g .ss)) this (readAt limit s (suc count) between p))
         ∙ ap (λ (l : List Statement). prependAll l (readAt limit s (suc count) between p)) (sym (drop-append-le 32 (g .ss) (this ∷ []) c)))
         (λ q. g .from h)
+        ((calm-same .0, g .early .1), calm-same .1)
 
 -- the same of the same
-pub same-reading : {limit : ℕ} {s : List ℕ} {forms forms' : List Form} {count cur : ℕ} {later later' : Cursor} {end end' : ℕ}
+pub same-reading : {limit : ℕ} {s : List ℕ} {forms forms' : List Form} {count cur : ℕ} {later later' : Cursor} {start start' end end' : ℕ}
     → forms' ≡ forms
     → later' ≡ later
+    → start' ≡ start
     → end' ≡ end
-    → Reading limit s forms count cur (later .at) end
-    → Reading limit s forms' count cur (later' .at) end'
-same-reading {limit} {s} {forms} {forms'} {count} {cur} {later} {later'} {end} {end'} a b c g =
-    subst (λ (fs : List Form). Reading limit s fs count cur (later' .at) end') (sym a)
-    (subst (λ (q : Cursor). Reading limit s forms count cur (q .at) end') (sym b)
-    (subst (λ (d : ℕ). Reading limit s forms count cur (later .at) d) (sym c) g))
+    → Reading limit s forms count cur (later .at) start end
+    → Reading limit s forms' count cur (later' .at) start' end'
+same-reading {limit} {s} {forms} {forms'} {count} {cur} {later} {later'} {start} {start'} {end} {end'} a b d c g =
+    subst (λ (fs : List Form). Reading limit s fs count cur (later' .at) start' end') (sym a)
+    (subst (λ (q : Cursor). Reading limit s forms count cur (q .at) start' end') (sym b)
+    (subst (λ (k : ℕ). Reading limit s forms count cur (later .at) k end') (sym d)
+    (subst (λ (k : ℕ). Reading limit s forms count cur (later .at) start k) (sym c) g)))
 
 -- All statements of a text are read, and taken in order: those from an index on are kept, or are read again from a cursor. `next` is the first that is
 -- read there.
@@ -203,13 +234,15 @@ pub record Ahead (limit : ℕ) (s : List ℕ) (ss : List Statement) (i at : ℕ)
   pub few : next ≤ length ss → next ≤ at
 
 -- All were read, to the text's end.
-pub record AllRead (limit : ℕ) (s : List ℕ) (ss : List Statement) (forms : List Form) (count later end : ℕ) : Type 0 where
+pub record AllRead (limit : ℕ) (s : List ℕ) (ss : List Statement) (forms : List Form) (count later start end : ℕ) : Type 0 where
   pub read : readText limit s ≡ accepted ss
   pub many : length ss ≡ count
   pub most : count ≤ 256
   pub wide : length forms ≡ 32
   pub kept : take 32 ss ≡ map (formIn s) (take count forms)
   pub ahead : Ahead limit s ss 0 later
+  pub early : (start ≤ count) × (start ≤ 32)
+  pub calm : present (lets (take start ss)) ≡ []
   pub bound : end ≤ count
   pub quiet : present (lets (drop end ss)) ≡ []
 
@@ -222,14 +255,14 @@ unfoldable pub textStatements : ℕ → List ℕ → List Statement
 textStatements limit s = statementsOf (readText limit s)
 
 pub all-read :
-    {limit : ℕ} {s : List ℕ} {forms : List Form} {count cur later end : ℕ} (g : Reading limit s forms count cur later end)
+    {limit : ℕ} {s : List ℕ} {forms : List Form} {count cur later start end : ℕ} (g : Reading limit s forms count cur later start end)
     → Admitted limit s
     → readAt limit s count between cur ≡ accepted []
-    → AllRead limit s (textStatements limit s) forms count later end
+    → AllRead limit s (textStatements limit s) forms count later start end
 unfolding textStatements statementsOf
-all-read {limit} {s} {forms} {count} {cur} {later} {end} g h e =
+all-read {limit} {s} {forms} {count} {cur} {later} {start} {end} g h e =
     let r : readText limit s ≡ accepted (g .ss) = accepted-text limit s (g .ss) h (g .read ∙ ap (prependAll (g .ss)) e ∙ prepend-none (g .ss)) in
-    subst (λ (ss : List Statement). AllRead limit s ss forms count later end) (sym (ap statementsOf r))
+    subst (λ (ss : List Statement). AllRead limit s ss forms count later start end) (sym (ap statementsOf r))
     (record {
       read = r;
       many = g .many;
@@ -243,9 +276,19 @@ all-read {limit} {s} {forms} {count} {cur} {later} {end} g h e =
         left = λ h. g .behind (omega (arith, h, g .many)) ∙ ap (prependAll (drop 32 (g .ss))) e ∙ prepend-none (drop 32 (g .ss));
         few = λ h. g .from (omega (arith, h, g .many));
       };
+      early = g .early;
+      calm = g .calm;
       bound = g .bound;
       quiet = g .quiet;
     })
+
+-- the first that is not passed by is kept, or is the first that is read again
+pub ahead-start : {limit : ℕ} {s : List ℕ} {ss : List Statement} {forms : List Form} {count later start end : ℕ}
+    → AllRead limit s ss forms count later start end → Ahead limit s ss start later
+ahead-start {start} g =
+    let a = g .ahead in
+    let n : a .next ≡ 32 = a .near (omega arith) in
+    record { next = a .next; near = λ _. n; far = λ h. omega (arith, n, h, g .early .1); left = a .left; few = a .few }
 
 -- what a cursor has to be for the statement at an index
 pub ahead-few : {limit : ℕ} {s : List ℕ} {ss : List Statement} {i at : ℕ} → Ahead limit s ss i at → i < length ss → 32 ≤ i → i ≤ at
@@ -259,7 +302,7 @@ pub record Here (limit : ℕ) (s : List ℕ) (ss : List Statement) (i : ℕ) (r 
   pub first : drop i ss ≡ statementIn s (r .statement) ∷ drop (suc i) ss
   pub ahead : Ahead limit s ss (i + 1) (r .next .at)
 
-module _ {limit : ℕ} {s : List ℕ} {ss : List Statement} {forms : List Form} {count later end : ℕ} (g : AllRead limit s ss forms count later end)
+module _ {limit : ℕ} {s : List ℕ} {ss : List Statement} {forms : List Form} {count later start end : ℕ} (g : AllRead limit s ss forms count later start end)
     {i : ℕ} {at : Cursor} (a : Ahead limit s ss i (at .at)) (h : i < count) (d : Form) where
   within : i < length ss
   within = omega (arith, h, g .many)

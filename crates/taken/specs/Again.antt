@@ -1,7 +1,9 @@
 -- Statements that are kept, and those that are read again.
 use Prim.Native.Nat.{ℕ, suc, _+_, _<_, _≤_}
+use mathlib.Core.Bool.{cond}
 use mathlib.Core.List.{List, _∷_}
 use mathlib.Core.Path.{_≡_}
+use lib.Dec.{eqb}
 use Rattle.tokens.specs.declared.Cursor.{Cursor}
 use Rattle.reading.specs.Statement as reading
 use Rattle.reading.specs.Answer.{accepted}
@@ -17,6 +19,10 @@ use Rattle.taken.specs.declared.Again.{Again}
 unfoldable pub endAfter : Statement → ℕ → ℕ → ℕ
 endAfter (form.Let name values) i end = i + 1
 endAfter (form.Feature f) i end = end
+
+-- how many statements stand in front of the first LET, with one statement more, where the last LET stands just before `end`
+abbrev pub startAfter : ℕ → ℕ → ℕ → ℕ
+startAfter i start end = cond (eqb end 0) (i + 1) start
 
 -- a statement that was read again: it is the one that stands here, and the others stand behind it
 pub record Reread (limit : ℕ) (s : List ℕ) (at i : ℕ) (x : reading.Statement) (xs : List reading.Statement) (r : Again) : Type 0 where

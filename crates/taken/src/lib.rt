@@ -7,7 +7,7 @@ ghost use Rattle.tokens.specs.Class.{classTable};
 ghost use Rattle.labels.specs.Table.{labelTable, keywordTable};
 ghost use Rattle.reading_laws.specs.Admitted.{Admitted};
 ghost use Rattle.taken.specs.Taken.{TakenAs};
-ghost use Rattle.taken.specs.Again.{endAfter, AgainAs};
+ghost use Rattle.taken.specs.Again.{endAfter, startAfter, AgainAs};
 use brought::Step;
 use brought::Tally;
 use context::Checked;
@@ -62,6 +62,17 @@ fn lets_end(statement: Statement, index: usize, end: usize) -> usize
     }
 }
 
+// How many statements that are kept stand in front of the first LET, with one statement more that is kept, where `end` is the index behind the last LET.
+fn lets_start(index: usize, start: usize, end: usize) -> usize
+    requires { ⌜ index < 256 ⌝ }
+    ensures { λ r. ⌜ r ≡ startAfter index start end ⌝ }
+{
+    if end == 0 {
+        return index + 1;
+    }
+    start
+}
+
 // Where the statement at an index is kept, if it is.
 fn slot(index: usize) -> usize
     ensures { λ r. ⌜ (r < 32) × (index < 32 → r ≡ index) ⌝ }
@@ -111,7 +122,7 @@ fn statement_at(
 
 // What the statements of a text bring: the terms, the indexes of those that are dropped, and the ground statements of those that stay. The text's
 // own faults come first, then its context's, then a second LET of a key, then those of its statements in order. So the text is read to its end before
-// anything is made of a statement; its LETs are looked for, no further than the last one; and then each statement is taken.
+// anything is made of a statement; its LETs are looked for, from the first one to the last; and then each statement is taken.
 pub fn take_text(
     text: &[u8],
     classes: &Classes,
@@ -131,6 +142,8 @@ pub fn take_text(
 {
     let mut forms = no_forms();
     let mut count = 0;
+    // no LET stands before the statement at `start`, nor from the one at `end` on
+    let mut start = 0;
     let mut end = 0;
     let mut cur = Cursor::new();
     // where the first statement starts that is not kept
@@ -142,6 +155,7 @@ pub fn take_text(
                 if count < FEW {
                     forms[count] = Form { statement };
                     later = after;
+                    start = lets_start(count, start, end);
                 }
                 cur = after;
                 count += 1;
@@ -160,7 +174,7 @@ pub fn take_text(
         });
     };
     let mut n = 0;
-    let mut i = 0;
+    let mut i = start;
     let mut from = later;
     while i < end {
         let again = statement_at(text, classes, labels, keys, forms[slot(i)], from, i, limit);

@@ -20,6 +20,7 @@ use Rattle.forms.specs.Forms.{statementIn}
 use Rattle.statements.specs.Answers.{readAt, nextThen, NextFurther}
 use Rattle.writing.proofs.Writing.{same-room}
 use Rattle.brought.specs.Tallies.{BringAs, PrintsAs}
+use Rattle.taken.specs.Again.{startAfter}
 use Rattle.taken.specs.Collected.{present, CollectedAll}
 use Rattle.taken.specs.Taken.{TakenAs}
 use Rattle.taken.proofs.Reading.{
@@ -30,6 +31,7 @@ use Rattle.taken.proofs.Reading.{
   one-passed,
   same-reading,
   Ahead,
+  ahead-start,
   AllRead,
   textStatements,
   all-read,
@@ -38,32 +40,31 @@ use Rattle.taken.proofs.Reading.{
   here,
   here-fits,
 }
-use Rattle.taken.proofs.Gathering.{Gathering, none-gathered, all-gathered, feature-passed, key-again, one-gathered, let-stands}
+use Rattle.taken.proofs.Gathering.{Gathering, still-quiet, started, all-gathered, feature-passed, key-again, one-gathered, let-stands}
 use Rattle.taken.proofs.Bringing.{Bringing, none-brought, one-brought, one-refused, all-brought}
 use Rattle.taken.proofs.Refusing.{text-refused, context-refused, let-refused, statement-refused}
 use Rattle.taken.proofs.take_text.Statement.{statement}
 use Rattle.taken.proofs.take_text.Tie as tie
 
 abbrev Inv-loop : tie.InvT-loop
-Inv-loop text classes labels keys block lists limit lets terms dropped out forms₀ count₀ end₀ cur₀ later₀ forms count end cur later =
-    Reading limit text forms count (cur .at) (later .at) end
+Inv-loop text classes labels keys block lists limit lets terms dropped out forms₀ count₀ start₀ end₀ cur₀ later₀ forms count start end cur later =
+    Reading limit text forms count (cur .at) (later .at) start end
 
 abbrev μ-loop : tie.MeasureT-loop
-μ-loop text classes labels keys block lists limit lets terms dropped out forms₀ count₀ end₀ cur₀ later₀ forms count end cur later =
+μ-loop text classes labels keys block lists limit lets terms dropped out forms₀ count₀ start₀ end₀ cur₀ later₀ forms count start end cur later =
     length text - cur .at
 
 abbrev Inv-loop2 : tie.InvT-loop2
-Inv-loop2 text classes labels keys block lists limit lets₀ terms dropped out forms count end later layout n₀ i₀ from₀ lets n i from =
+Inv-loop2 text classes labels keys block lists limit lets₀ terms dropped out forms count start end later layout n₀ i₀ from₀ lets n i from =
     Gathering text (textStatements limit text) lets n i
     × Ahead limit text (textStatements limit text) i (from .at)
-    × (i ≤ end)
     × (length lets ≡ length lets₀)
 
 abbrev μ-loop2 : tie.MeasureT-loop2
-μ-loop2 text classes labels keys block lists limit lets₀ terms dropped out forms count end later layout n₀ i₀ from₀ lets n i from = end - i
+μ-loop2 text classes labels keys block lists limit lets₀ terms dropped out forms count start end later layout n₀ i₀ from₀ lets n i from = end - i
 
 abbrev Inv-loop3 : tie.InvT-loop3
-Inv-loop3 text classes labels keys block lists limit lets terms₀ dropped₀ out₀ forms count end later₀ layout n i tally₀ k₀ terms dropped out later tally k =
+Inv-loop3 text classes labels keys block lists limit lets terms₀ dropped₀ out₀ forms count start end later₀ layout n i tally₀ k₀ terms dropped out later tally k =
     Bringing (bring (handedContext block lists) (meaningIn text lets n (handedContext block lists))) (textStatements limit text) k terms₀ dropped₀ tally
     terms dropped out₀ out
     × Ahead limit text (textStatements limit text) k (later .at)
@@ -73,7 +74,7 @@ Inv-loop3 text classes labels keys block lists limit lets terms₀ dropped₀ ou
     × (k ≤ count)
 
 abbrev μ-loop3 : tie.MeasureT-loop3
-μ-loop3 text classes labels keys block lists limit lets terms₀ dropped₀ out₀ forms count end later₀ layout n i tally₀ k₀ terms dropped out later tally k =
+μ-loop3 text classes labels keys block lists limit lets terms₀ dropped₀ out₀ forms count start end later₀ layout n i tally₀ k₀ terms dropped out later tally k =
     count - k
 
 abbrev start : tie.At-loop Inv-loop μ-loop Inv-loop2 μ-loop2 Inv-loop3 μ-loop3 → tie.Start Inv-loop μ-loop Inv-loop2 μ-loop2 Inv-loop3 μ-loop3
@@ -115,6 +116,9 @@ mul-forms c = omega (arith, c .if1 .taken)
 array-set-from-forms : tie.Need-array-set-from-forms Inv-loop μ-loop Inv-loop2 μ-loop2 Inv-loop3 μ-loop3
 array-set-from-forms c = omega (arith, c .if1 .taken)
 
+lets-start-requires : tie.Need-lets-start-requires Inv-loop μ-loop Inv-loop2 μ-loop2 Inv-loop3 μ-loop3
+lets-start-requires c κs = forward (c .before .before .before) .2
+
 add-count : tie.Need-add-count Inv-loop μ-loop Inv-loop2 μ-loop2 Inv-loop3 μ-loop3
 add-count c = omega (arith, forward (c .before .before .before) .2)
 
@@ -129,8 +133,9 @@ loop-again c =
     let x = f .statement .given .0 in
     let h = forward f in
     ⊎-elim
-    (λ w. same-reading (w .1) (w .2) (e .lets-end .ensures) (one-kept (l .loop .inv) (x .0) (x .1 .0 .at) (stands-next f) (h .0) (h .2) (w .0 .taken)))
-    (λ w. same-reading (w .1) (w .2) (e .lets-end .ensures) (one-passed (l .loop .inv) (x .0) (x .1 .0 .at) (stands-next f) (h .0) (h .2) (w .0 .left)))
+    (λ w. same-reading (w .2) (w .4) (w .3 ∙ w .1 .ensures ∙ ap (startAfter (l .loop .count) (l .loop .start)) (e .lets-end .ensures)) (e .lets-end .ensures)
+    (one-kept (l .loop .inv) (x .0) (x .1 .0 .at) (stands-next f) (h .0) (h .2) (w .0 .taken)))
+    (λ w. same-reading (w .1) (w .3) (w .2) (e .lets-end .ensures) (one-passed (l .loop .inv) (x .0) (x .1 .0 .at) (stands-next f) (h .0) (h .2) (w .0 .left)))
     (c .if1 .came)
 
 earliest-requires : tie.Need-earliest-requires Inv-loop μ-loop Inv-loop2 μ-loop2 Inv-loop3 μ-loop3
@@ -155,7 +160,7 @@ loop-at e = e .before .before .before
 whole : (e : tie.After-enum-told Inv-loop μ-loop Inv-loop2 μ-loop2 Inv-loop3 μ-loop3)
     → let l = loop-at e in
     let a = start l .args in
-    AllRead (a .limit) (now (a .text)) (textStatements (a .limit) (now (a .text))) (l .loop .forms) (l .loop .count) (l .loop .later .at) (l .loop .end)
+    AllRead (a .limit) (now (a .text)) (textStatements (a .limit) (now (a .text))) (l .loop .forms) (l .loop .count) (l .loop .later .at) (l .loop .start) (l .loop .end)
 unfolding nextThen
 whole e =
     let l = loop-at e in
@@ -186,7 +191,9 @@ stands m =
 -- LETs.
 
 loop2-holds : tie.Need-loop2-holds Inv-loop μ-loop Inv-loop2 μ-loop2 Inv-loop3 μ-loop3
-loop2-holds c = (none-gathered _ _ _, whole (c .before .before .before .before) .ahead, omega arith, refl)
+loop2-holds c =
+    let w = whole (c .before .before .before .before) in
+    (started _ _ _ _ (omega (arith, w .early .0, w .many)) (w .calm), ahead-start w, refl)
 
 mul-statement-at : tie.Need-mul-statement-at Inv-loop μ-loop Inv-loop2 μ-loop2 Inv-loop3 μ-loop3
 mul-statement-at c = omega (arith, c .slot .ensures .0)
@@ -238,7 +245,7 @@ has-let-requires c κs =
     (x .before .before .before .before .before .before .loop2 .inv .0 .fit, let-here x .0)
 
 same-length : tie.Need-same-length Inv-loop μ-loop Inv-loop2 μ-loop2 Inv-loop3 μ-loop3
-same-length c = c .before .before .before .before .before .before .before .before .before .before .loop2 .inv .3
+same-length c = c .before .before .before .before .before .before .before .before .before .before .loop2 .inv .2
 
 returns-3 : tie.Need-returns-3 Inv-loop μ-loop Inv-loop2 μ-loop2 Inv-loop3 μ-loop3
 unfolding TakenAs
@@ -266,11 +273,11 @@ add-if3 : tie.Need-add-if3 Inv-loop μ-loop Inv-loop2 μ-loop2 Inv-loop3 μ-loop
 add-if3 c = omega (arith, below c)
 
 same-length-2 : tie.Need-same-length-2 Inv-loop μ-loop Inv-loop2 μ-loop2 Inv-loop3 μ-loop3
-same-length-2 c = let-turn (c .before) .before .loop2 .inv .3
+same-length-2 c = let-turn (c .before) .before .loop2 .inv .2
 
 returns-4 : tie.Need-returns-4 Inv-loop μ-loop Inv-loop2 μ-loop2 Inv-loop3 μ-loop3
 unfolding TakenAs
-returns-4 c = omega (arith, c .if3 .taken, below (c .before), let-turn (c .before) .before .loop2 .inv .3)
+returns-4 c = omega (arith, c .if3 .taken, below (c .before), let-turn (c .before) .before .loop2 .inv .2)
 
 put-let-requires : tie.Need-put-let-requires Inv-loop μ-loop Inv-loop2 μ-loop2 Inv-loop3 μ-loop3
 put-let-requires c κs =
@@ -310,8 +317,7 @@ loop2-again c =
       one-gathered (m .loop2 .inv .0) _ (stands-here a .first) (x .statement2 .given .0 .0) (x .statement2 .given .0 .1 .0) (x .statement2 .given .1)
           (b .has-let .ensures) (e .if2 .left) (p .put-let .ensures),
       stands-here a .ahead,
-      omega (arith, t .loop2-test .taken),
-      p .put-let .ensures .size ∙ m .loop2 .inv .3,
+      p .put-let .ensures .size ∙ m .loop2 .inv .2,
     )
 
 abbrev feature-turn : tie.After-from2 Inv-loop μ-loop Inv-loop2 μ-loop2 Inv-loop3 μ-loop3 → tie.In-loop2 Inv-loop μ-loop Inv-loop2 μ-loop2 Inv-loop3 μ-loop3
@@ -331,8 +337,7 @@ loop2-again-2 c =
     let m = t .before in (
       feature-passed (m .loop2 .inv .0) _ (stands-here a .first) (x .enum-told3 .given .0 .0) (x .enum-told3 .given .1),
       stands-here a .ahead,
-      omega (arith, t .loop2-test .taken),
-      m .loop2 .inv .3,
+      m .loop2 .inv .2,
     )
 
 -- all LETs stand in the run
@@ -344,8 +349,8 @@ collected b =
     let m = b .before in
     let a = start (loop-at (read-at m)) .args in
     let w = whole (read-at m) in
-    let e : m .loop2 .i ≡ loop-at (read-at m) .loop .end = omega (arith, b .loop2-test .left, m .loop2 .inv .2) in
-    all-gathered (m .loop2 .inv .0) (ap (λ (k : ℕ). present (lets (drop k (textStatements (a .limit) (now (a .text)))))) e ∙ w .quiet)
+    all-gathered (m .loop2 .inv .0)
+    (still-quiet (textStatements (a .limit) (now (a .text))) (loop-at (read-at m) .loop .end) (m .loop2 .i) (omega (arith, b .loop2-test .left)) (w .quiet))
 
 -- What they bring.
 
@@ -451,7 +456,7 @@ abbrev loop3-at : tie.After-known-told6 Inv-loop μ-loop Inv-loop2 μ-loop2 Inv-
 loop3-at c = turn-at (refused-at c) .before
 
 same-length-3 : tie.Need-same-length-3 Inv-loop μ-loop Inv-loop2 μ-loop2 Inv-loop3 μ-loop3
-same-length-3 c = search (needs, lets-at (loop3-at c) .loop2 .inv .3)
+same-length-3 c = search (needs, lets-at (loop3-at c) .loop2 .inv .2)
 
 same-length-4 : tie.Need-same-length-4 Inv-loop μ-loop Inv-loop2 μ-loop2 Inv-loop3 μ-loop3
 same-length-4 c = search (needs, loop3-at c .loop3 .inv .3)
@@ -474,7 +479,7 @@ returns-5 c =
     (one-refused (q .loop3 .inv .0) _ (taken-here (read-again b) .first) (x .given .0 .0) h)
 
 same-length-7 : tie.Need-same-length-7 Inv-loop μ-loop Inv-loop2 μ-loop2 Inv-loop3 μ-loop3
-same-length-7 c = lets-at (c .before) .loop2 .inv .3
+same-length-7 c = lets-at (c .before) .loop2 .inv .2
 
 same-length-8 : tie.Need-same-length-8 Inv-loop μ-loop Inv-loop2 μ-loop2 Inv-loop3 μ-loop3
 same-length-8 c = c .before .loop3 .inv .3
@@ -529,6 +534,7 @@ take-text-spec =
     lets-end-requires
     mul-forms
     array-set-from-forms
+    lets-start-requires
     add-count
     loop-less
     loop-again
