@@ -22,12 +22,9 @@ use Rattle.forms.specs.declared.Refusal.{Refusal}
 use Rattle.forms.specs.Items.{tokensFrom}
 use Rattle.tokens.proofs.Steps.{token, at-end}
 use Rattle.tokens.proofs.Views.{Reads, Known, aWord, aNumber, aMark, aStray, theEnd}
-use Rattle.statements.specs.Answers.{readAt, crowdedBy, counted}
-
--- what comes after a statement that was read, or its refusal
-abbrev pub oneThen : ℕ → ℕ → ℕ → One → Answer (List Statement)
-oneThen limit size n (whole s ts) = prepend s (readFrom limit size (suc n) Where.ended ts)
-oneThen limit size n (halted k p) = refused k p
+use Rattle.statements.specs.declared.NextRead.{NextRead}
+use Rattle.statements.specs.declared.NextRead.the-variants as nextRead
+use Rattle.statements.specs.Answers.{readAt, oneThen, NextFrom, NextFurther, crowdedBy, counted}
 
 step-then :
     (limit size n : ℕ) (ts : Tokens) (x : Step)
@@ -141,3 +138,16 @@ counted-accepted n m (refused k p) e = absurd (let z : _≡_ {A = ℕ} 0 1 = cc 
 pub counted-refused : (n k p : ℕ) (a : Answer (List Statement)) → counted n a ≡ refused k p → a ≡ refused k p
 counted-refused n k p (accepted ss) e = absurd (let z : _≡_ {A = ℕ} 0 1 = cc in omega arith)
 counted-refused n k p (refused k' p') e = cc
+
+-- A statement that ends behind an offset ends behind an earlier one.
+pub from-sooner : (s : List ℕ) (o p : ℕ) (r : NextRead) → NextFrom s p r → o ≤ p → NextFrom s o r
+unfolding NextFrom
+from-sooner s o p (nextRead.Statement f c) h q = (omega (arith, h .0, q), h .1)
+from-sooner s o p nextRead.End h q = tt
+from-sooner s o p (nextRead.Refused r) h q = tt
+
+pub from-further : (s : List ℕ) (n o p : ℕ) (r : NextRead) → NextFrom s p r → o < p → n < 256 → NextFurther s n o r
+unfolding NextFrom NextFurther
+from-further s n o p (nextRead.Statement f c) h q k = (omega (arith, h .0, q), h .1, k)
+from-further s n o p nextRead.End h q k = tt
+from-further s n o p (nextRead.Refused r) h q k = tt

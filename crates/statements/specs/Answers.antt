@@ -18,8 +18,6 @@ use Rattle.forms.specs.Items.{tokensFrom}
 use Rattle.forms.specs.Forms.{statementIn}
 use Rattle.statements.specs.declared.Admission.{Admission}
 use Rattle.statements.specs.declared.Admission.the-variants as admission
-use Rattle.statements.specs.declared.StatementRead.{StatementRead}
-use Rattle.statements.specs.declared.StatementRead.the-variants as statementRead
 use Rattle.statements.specs.declared.Ended.{Ended}
 use Rattle.statements.specs.declared.Ended.the-variants as ended
 use Rattle.statements.specs.declared.NextRead.{NextRead}
@@ -31,18 +29,14 @@ use Rattle.statements.specs.declared.NthRead.the-variants as nthRead
 use Rattle.statements.specs.declared.CountRead.{CountRead}
 use Rattle.statements.specs.declared.CountRead.the-variants as countRead
 
--- one statement, read to its `)`
-unfoldable pub statementThen : List ℕ → StatementRead → One
-statementThen s (statementRead.Statement f c) = whole (statementIn s f) (tokensFrom s (c .at))
-statementThen s (statementRead.Refused r) = halted (r .number) (r .place)
-
-unfoldable pub StatementFurther : List ℕ → ℕ → StatementRead → Type 0
-StatementFurther s o (statementRead.Statement f c) = (o < c .at) × (c .at ≤ length s)
-StatementFurther s o (statementRead.Refused r) = Unit {0}
-
 -- the statements of a text from an offset on, after so many
 abbrev pub readAt : ℕ → List ℕ → ℕ → Where → ℕ → Answer (List Statement)
 readAt limit s n w o = readFrom limit (length s) n w (tokensFrom s o)
+
+-- what comes after a statement that was read to its `)`, where so many were read before it; or its refusal
+abbrev pub oneThen : ℕ → ℕ → ℕ → One → Answer (List Statement)
+oneThen limit size n (whole s ts) = prepend s (readFrom limit size (suc n) Where.ended ts)
+oneThen limit size n (halted k p) = refused k p
 
 -- the first token that is no separator
 pub record FirstToken (s : List ℕ) (o : ℕ) (t : lexer.Token) : Type 0 where
@@ -70,6 +64,12 @@ unfoldable pub nextThen : ℕ → List ℕ → ℕ → NextRead → Answer (List
 nextThen limit s n (nextRead.Statement f c) = prepend (statementIn s f) (readAt limit s (suc n) between (c .at))
 nextThen limit s n nextRead.End = accepted []
 nextThen limit s n (nextRead.Refused r) = refused (r .number) (r .place)
+
+-- it ends in the text, at an offset or behind it
+unfoldable pub NextFrom : List ℕ → ℕ → NextRead → Type 0
+NextFrom s o (nextRead.Statement f c) = (o ≤ c .at) × (c .at ≤ length s)
+NextFrom s o nextRead.End = Unit {0}
+NextFrom s o (nextRead.Refused r) = Unit {0}
 
 unfoldable pub NextFurther : List ℕ → ℕ → ℕ → NextRead → Type 0
 NextFurther s n o (nextRead.Statement f c) = (o < c .at) × (c .at ≤ length s) × (n < 256)

@@ -1,6 +1,6 @@
 // The statements of a text, one after the other.
 ghost use mathlib.Core.Path.{_≡_};
-ghost use Prim.Native.Nat.{ℕ, _≤_, _<_};
+ghost use Prim.Native.Nat.{ℕ, suc, _≤_, _<_};
 ghost use lib.ListN.{length};
 ghost use Rattle.text.specs.Bytes.{bytes};
 ghost use Rattle.tokens.specs.Token.{word};
@@ -10,10 +10,12 @@ ghost use Rattle.labels.specs.Word.{sameWord};
 ghost use Rattle.labels.specs.Table.{labelTable, keywordTable};
 ghost use Rattle.reading.specs.Syntax.{keyword, letKeyword, opened};
 ghost use Rattle.reading.specs.Read.{between};
-ghost use Rattle.forms.specs.Items.{nameIn};
+ghost use Rattle.reading.specs.One.{whole};
+ghost use Rattle.forms.specs.Items.{nameIn, tokensFrom};
+ghost use Rattle.forms.specs.Forms.{statementIn};
 ghost use Rattle.forms.specs.Fits.{InText};
 ghost use Rattle.arguments.specs.Answers.{readIn, stepIn};
-ghost use Rattle.statements.specs.Answers.{statementThen, StatementFurther, FirstToken, EndedThen, EndedFurther, crowdedBy, readAt, nextThen, NextFurther, AdmissionAs, FirstFault, counted, countAs, indexed, nthAs, statementAs, counting, stating};
+ghost use Rattle.statements.specs.Answers.{oneThen, NextFrom, FirstToken, EndedThen, EndedFurther, crowdedBy, readAt, nextThen, NextFurther, AdmissionAs, FirstFault, counted, countAs, indexed, nthAs, statementAs, counting, stating};
 use checks::ItemsRead;
 use features::Built;
 use forms::Items;
@@ -32,12 +34,6 @@ use tokens::Token;
 // Whether a text is read at all, or why it is not.
 pub enum Admission {
     Fine,
-    Refused(Refusal),
-}
-
-// A statement with the cursor behind it, or a refusal.
-pub enum StatementRead {
-    Statement(Statement, Cursor),
     Refused(Refusal),
 }
 
@@ -81,74 +77,6 @@ fn is_let(text: &[u8], name: Name) -> bool
     let start = name.offset;
     let end = start + name.length;
     labels::same_word(&text[start..end], b"LET")
-}
-
-// A LET behind its keyword.
-fn let_statement(text: &[u8], classes: &Classes, cur: Cursor, limit: u32) -> StatementRead
-    requires { ⌜ now classes ≡ classTable ⌝ }
-    ensures { λ r. ⌜ readIn limit (now (text .entry)) letKeyword (cur .at) ≡ statementThen (now (text .entry)) r ⌝ }
-    ensures { λ r. ⌜ StatementFurther (now (text .entry)) (cur .at) r ⌝ }
-{
-    match syntax::read_let(text, classes, cur, limit) {
-        LetRead::Let { name, arg, next } => match checks::items_of(arg) {
-            ItemsRead::Items(values) => StatementRead::Statement(
-                Statement::Let { name, values },
-                next,
-            ),
-            ItemsRead::Refused(r) => StatementRead::Refused(r),
-        },
-        LetRead::Refused(r) => StatementRead::Refused(r),
-    }
-}
-
-// A feature's statement behind its keyword.
-fn feature_statement(
-    text: &[u8],
-    classes: &Classes,
-    labels: &Labels,
-    keys: &Keywords,
-    name: Name,
-    cur: Cursor,
-    limit: u32,
-) -> StatementRead
-    requires { ⌜ (now classes ≡ classTable) × (now labels ≡ labelTable) × (now keys ≡ keywordTable) × InText (now text) name ⌝ }
-    ensures { λ r. ⌜ readIn limit (now (text .entry)) (keyword (nameIn (now (text .entry)) name)) (cur .at) ≡ statementThen (now (text .entry)) r ⌝ }
-    ensures { λ r. ⌜ StatementFurther (now (text .entry)) (cur .at) r ⌝ }
-{
-    match syntax::read_feature(text, classes, cur, limit) {
-        FeatureRead::Call {
-            optional,
-            args,
-            next,
-        } => match features::build(text, classes, labels, keys, name, args, optional, limit) {
-            Built::Feature(feature) => StatementRead::Statement(Statement::Feature(feature), next),
-            Built::Refused(r) => StatementRead::Refused(r),
-        },
-        FeatureRead::Refused(r) => StatementRead::Refused(r),
-    }
-}
-
-// A statement behind its first word.
-fn statement(
-    text: &[u8],
-    classes: &Classes,
-    labels: &Labels,
-    keys: &Keywords,
-    name: Name,
-    cur: Cursor,
-    limit: u32,
-) -> StatementRead
-    requires { ⌜ (now classes ≡ classTable) × (now labels ≡ labelTable) × (now keys ≡ keywordTable) × InText (now text) name ⌝ }
-    ensures { λ r. ⌜
-        stepIn limit (now (text .entry)) (opened (name .offset) (word (nameIn (now (text .entry)) name .spelling))) (cur .at)
-        ≡ statementThen (now (text .entry)) r
-        ⌝ }
-    ensures { λ r. ⌜ StatementFurther (now (text .entry)) (cur .at) r ⌝ }
-{
-    if is_let(text, name) {
-        return let_statement(text, classes, cur, limit);
-    }
-    feature_statement(text, classes, labels, keys, name, cur, limit)
 }
 
 // The first token, from the cursor on, that is no separator. Blanks and comments stand here more often than anywhere else.
@@ -206,6 +134,105 @@ fn crowded(token: Token, n: usize) -> Refusal
     }
 }
 
+// A statement that is read to its `)`, where `n` were read before it: with what may stand behind it, it is the next one.
+fn completed(text: &[u8], classes: &Classes, form: Statement, cur: Cursor, n: usize) -> NextRead
+    requires { ⌜ (now classes ≡ classTable) × (n < 256) × (cur .at ≤ length (now text)) ⌝ }
+    ensures { λ r. ⌜
+        ((limit : ℕ)
+        → oneThen limit (length (now (text .entry))) n (whole (statementIn (now (text .entry)) form) (tokensFrom (now (text .entry)) (cur .at)))
+        ≡ nextThen limit (now (text .entry)) n r)
+        ⌝ }
+    ensures { λ r. ⌜ NextFrom (now (text .entry)) (cur .at) r ⌝ }
+{
+    match behind(text, classes, cur, n + 1) {
+        Ended::Fine(next) => NextRead::Statement(form, next),
+        Ended::Refused(r) => NextRead::Refused(r),
+    }
+}
+
+// A LET behind its keyword.
+fn let_statement(text: &[u8], classes: &Classes, cur: Cursor, n: usize, limit: u32) -> NextRead
+    requires { ⌜ (now classes ≡ classTable) × (n < 256) ⌝ }
+    ensures { λ r. ⌜ oneThen limit (length (now (text .entry))) n (readIn limit (now (text .entry)) letKeyword (cur .at)) ≡ nextThen limit (now (text .entry)) n r ⌝ }
+    ensures { λ r. ⌜ NextFrom (now (text .entry)) (suc (cur .at)) r ⌝ }
+{
+    match syntax::read_let(text, classes, cur, limit) {
+        LetRead::Let { name, arg, next } => match checks::items_of(arg) {
+            ItemsRead::Items(values) => completed(
+                text,
+                classes,
+                Statement::Let { name, values },
+                next,
+                n,
+            ),
+            ItemsRead::Refused(r) => NextRead::Refused(r),
+        },
+        LetRead::Refused(r) => NextRead::Refused(r),
+    }
+}
+
+// A feature's statement behind its keyword.
+fn feature_statement(
+    text: &[u8],
+    classes: &Classes,
+    labels: &Labels,
+    keys: &Keywords,
+    name: Name,
+    cur: Cursor,
+    n: usize,
+    limit: u32,
+) -> NextRead
+    requires { ⌜ (now classes ≡ classTable) × (now labels ≡ labelTable) × (now keys ≡ keywordTable) × InText (now text) name × (n < 256) ⌝ }
+    ensures { λ r. ⌜
+        oneThen limit (length (now (text .entry))) n (readIn limit (now (text .entry)) (keyword (nameIn (now (text .entry)) name)) (cur .at))
+        ≡ nextThen limit (now (text .entry)) n r
+        ⌝ }
+    ensures { λ r. ⌜ NextFrom (now (text .entry)) (suc (cur .at)) r ⌝ }
+{
+    match syntax::read_feature(text, classes, cur, limit) {
+        FeatureRead::Call {
+            optional,
+            args,
+            next,
+        } => match features::build(text, classes, labels, keys, name, args, optional, limit) {
+            Built::Feature(feature) => completed(
+                text,
+                classes,
+                Statement::Feature(feature),
+                next,
+                n,
+            ),
+            Built::Refused(r) => NextRead::Refused(r),
+        },
+        FeatureRead::Refused(r) => NextRead::Refused(r),
+    }
+}
+
+// A statement behind its first word, where `n` were read before.
+fn statement(
+    text: &[u8],
+    classes: &Classes,
+    labels: &Labels,
+    keys: &Keywords,
+    name: Name,
+    cur: Cursor,
+    n: usize,
+    limit: u32,
+) -> NextRead
+    requires { ⌜ (now classes ≡ classTable) × (now labels ≡ labelTable) × (now keys ≡ keywordTable) × InText (now text) name × (n < 256) ⌝ }
+    ensures { λ r. ⌜
+        oneThen limit (length (now (text .entry))) n
+        (stepIn limit (now (text .entry)) (opened (name .offset) (word (nameIn (now (text .entry)) name .spelling))) (cur .at))
+        ≡ nextThen limit (now (text .entry)) n r
+        ⌝ }
+    ensures { λ r. ⌜ NextFrom (now (text .entry)) (suc (cur .at)) r ⌝ }
+{
+    if is_let(text, name) {
+        return let_statement(text, classes, cur, n, limit);
+    }
+    feature_statement(text, classes, labels, keys, name, cur, n, limit)
+}
+
 // The next statement, where `n` were read before.
 pub fn next_statement(
     text: &[u8],
@@ -232,13 +259,7 @@ pub fn next_statement(
     }
     let next = token.next;
     let name = arguments::named(token);
-    match statement(text, classes, labels, keys, name, next, limit) {
-        StatementRead::Statement(form, c) => match behind(text, classes, c, n + 1) {
-            Ended::Fine(d) => NextRead::Statement(form, d),
-            Ended::Refused(r) => NextRead::Refused(r),
-        },
-        StatementRead::Refused(r) => NextRead::Refused(r),
-    }
+    statement(text, classes, labels, keys, name, next, n, limit)
 }
 
 // The number of statements, where the text's bytes are in order.

@@ -1,6 +1,6 @@
 -- `statements::next_statement` meets its contract: the first token that is no separator starts a statement, is the text's end, or is refused.
 -- Assumes nothing.
-use Prim.Native.Nat.{ℕ, _+_}
+use Prim.Native.Nat.{suc}
 use mathlib.Core.Path.{_≡_, _∙_, ap, sym, subst}
 use native.Mathlib.Omega.{arith}
 use lib.ListN.{length}
@@ -17,8 +17,8 @@ use Rattle.tokens.proofs.Steps.{token}
 use Rattle.tokens.proofs.Views.{part, Reads, Known, known, known-word, known-end}
 use Rattle.arguments.specs.Answers.{stepIn}
 use Rattle.arguments.proofs.Names.{same-name, in-text}
-use Rattle.statements.specs.Answers.{readAt, statementThen, StatementFurther, EndedThen, EndedFurther, nextThen, NextFurther}
-use Rattle.statements.proofs.Whole.{refusedAs, oneThen, first-word, between-crowded, at-finish}
+use Rattle.statements.specs.Answers.{readAt, oneThen, nextThen, NextFurther}
+use Rattle.statements.proofs.Whole.{refusedAs, first-word, between-crowded, at-finish, from-further}
 use borrow.Author.Needs.{needs}
 use Rattle.statements.proofs.next_statement.Statement.{statement}
 use Rattle.statements.proofs.next_statement.Tie as tie
@@ -115,80 +115,17 @@ statement-requires : tie.Need-statement-requires
 statement-requires c κs =
     let d = c .before .before .before .before .before .before .before in
     let p = d .before .before .pre in
-    (p .0, p .1, p .2, in-text _ (d .first-token .result) (c .named .ensures) (word-at (c .before)))
-
-add-behind : tie.Need-add-behind
-unfolding StatementFurther
-add-behind c =
-    let w = c .before .before .before in
-    let d = w .before .before .before .before .before .before .before .before in
-    omega (arith, c .before .before .before .before .before .before .before .before .if2 .left)
-
-behind-requires : tie.Need-behind-requires
-behind-requires c κs = c .before .before .before .before .before .before .before .before .before .before .before .before .before .pre .0
+    (p .0, p .1, p .2, in-text _ (d .first-token .result) (c .named .ensures) (word-at (c .before)), c .before .before .before .before .if2 .left)
 
 returns-4 : tie.Need-returns-4
-unfolding nextThen NextFurther statementThen StatementFurther EndedThen EndedFurther
 returns-4 c =
-    let w = c .before .before .before .before .before .before .before in
-    let m = w .before in
+    let m = c .before in
     let d = m .before .before .before .before .before .before .before in
     let a = d .before .before .args in
-    let s = now (a .text) in
     let f = d .first-token .ensures in
-    let r = word-here m in
-    let e = opened-here m ∙ ap (oneThen (a .limit) (length s) (a .n)) (w .statement .ensures .0) in
-    let x = c .before .before .before .before .before .form .given in
-    let y = c .before .d .given in
-    let l = c .before .before .before .behind .ensures in
-    let b = subst (EndedThen (a .limit) s (a .n + 1) (x .0 .1 .0 .at)) (y .1) (l .0 (a .limit)) in
-    let h = subst (EndedFurther s (x .0 .1 .0 .at)) (y .1) (l .1) in
-    let g = subst (StatementFurther s (d .first-token .result .next .at)) (x .1) (w .statement .ensures .1) in (
-      f .same (a .limit) (a .n)
-          ∙ e
-          ∙ ap (λ (z : One). oneThen (a .limit) (length s) (a .n) z) (ap (statementThen s) (x .1))
-          ∙ ap (prepend (statementIn s (x .0 .0)))
-          (ap (λ (k : ℕ). readAt (a .limit) s k Where.ended (x .0 .1 .0 .at)) (sym (add-one (a .n)))
-          ∙ b
-          ∙ ap (λ (k : ℕ). readAt (a .limit) s k between (y .0 .0 .at)) (add-one (a .n))
-          ),
-      (omega (arith, f .ahead, r .ahead, r .wide, g .0, h .0 (g .1)), h .1, m .before .before .before .before .if2 .left),
-    )
-
-returns-5 : tie.Need-returns-5
-unfolding nextThen NextFurther statementThen EndedThen
-returns-5 c =
-    let w = c .before .before .before .before .before .before .before in
-    let m = w .before in
-    let d = m .before .before .before .before .before .before .before in
-    let a = d .before .before .args in
-    let s = now (a .text) in
-    let f = d .first-token .ensures in
-    let r = word-here m in
-    let e = opened-here m ∙ ap (oneThen (a .limit) (length s) (a .n)) (w .statement .ensures .0) in
-    let x = c .before .before .before .before .before .form .given in
-    let b = subst (EndedThen (a .limit) s (a .n + 1) (x .0 .1 .0 .at)) (c .before .r .given .1) (c .before .before .before .behind .ensures .0 (a .limit)) in (
-      f .same (a .limit) (a .n)
-          ∙ e
-          ∙ ap (λ (y : One). oneThen (a .limit) (length s) (a .n) y) (ap (statementThen s) (x .1))
-          ∙ ap (prepend (statementIn s (x .0 .0)))
-          (ap (λ (k : ℕ). readAt (a .limit) s k Where.ended (x .0 .1 .0 .at)) (sym (add-one (a .n))) ∙ b),
-      tt,
-    )
-
-returns-6 : tie.Need-returns-6
-unfolding nextThen NextFurther statementThen
-returns-6 c =
-    let w = c .before .before .before in
-    let m = w .before in
-    let d = m .before .before .before .before .before .before .before in
-    let a = d .before .before .args in
-    let s = now (a .text) in
-    let f = d .first-token .ensures in
-    let r = word-here m in
-    let e = opened-here m ∙ ap (oneThen (a .limit) (length s) (a .n)) (w .statement .ensures .0) in (
-      f .same (a .limit) (a .n) ∙ e ∙ ap (λ (y : One). oneThen (a .limit) (length s) (a .n) y) (ap (statementThen s) (c .before .r2 .given .1)),
-      tt,
+    let r = word-here m in (
+      f .same (a .limit) (a .n) ∙ opened-here m ∙ c .statement .ensures .0,
+      from-further (now (a .text)) (a .n) (a .cur .at) (suc (d .first-token .result .next .at)) (c .statement .result) (c .statement .ensures .1) (omega (arith, f .ahead, r .ahead, r .wide)) (m .before .before .before .before .if2 .left),
     )
 
 pub next-statement-spec : {M : Type 1} → statement M
@@ -203,12 +140,4 @@ next-statement-spec =
     returns-3
     named-requires
     statement-requires
-    (λ c. search needs)
-    add-behind
-    behind-requires
-    (λ c. search needs)
-    (λ c. search needs)
-    (λ c. search needs)
-    returns-4
-    returns-5
-    returns-6)
+    returns-4)
