@@ -1,45 +1,85 @@
 -- Groups listed one effect after the other: each with its forms so far, and a group that is not there yet has none so far.
 -- Assumes nothing.
-use Prim.Native.Nat.{ℕ, zero, suc, _+_, _*_, _≤_, _<_}
+use Prim.Native.Nat.{ℕ, zero, suc, _+_, _*_, _/_, _%_, _≤_, _<_}
 use native.Mathlib.Omega.{arith}
-use mathlib.Core.Path.{_≡_, refl, sym, _∙_, ap, subst}
+use mathlib.Core.Path.{_≡_, refl, sym, _∙_, ap, ap₂, subst}
 use mathlib.Core.Bool.{Bool, true, false, cond, _||_}
 use mathlib.Core.List.{List, [], _∷_, _++_, map}
 use borrow.Author.Tests.{eq-eqb, ne-eqb, eqb-true, eqb-false}
 use lib.Dec.{eqb}
 use lib.ListN.{length, take, getD, set, length-set, length-append, List·getD-append}
-use lib.Seq.{getD-append-seam, getD-set-same, getD-set-other}
-use Rattle.packs.specs.Packs.{Joined}
-use Rattle.resolving.specs.Lists.{any, firsts}
-use Rattle.resolving_laws.proofs.Appended.{map-append, firsts-one-more}
+use lib.Seq.{getD-append-seam, getD-set-same, getD-set-other, length-take-le}
+use Rattle.text.specs.Bytes.{memberOf}
+use Rattle.packs.specs.Packs.{places, Joined}
+use Rattle.packs.proofs.Packed.{no-place}
+use Rattle.resolving.specs.Lists.{any, keep, firsts}
+use Rattle.resolving_laws.proofs.Appended.{keep-append, map-append, firsts-one-more}
 use Rattle.resolving_laws.proofs.Once.{firsts-once}
 use Rattle.resolving_laws.proofs.Runs.{any-firsts}
-use Rattle.merging.specs.Packing.{effectOf, groupNumber, formNumber}
-use Rattle.merging.specs.Runs.{groupsIn}
-use Rattle.merging.specs.Outcomes.{Plain, GroupsListed}
+use Rattle.merging.specs.Packing.{effectOf, bare, groupNumber, formNumber}
+use Rattle.merging.specs.Runs.{groupsIn, formsOf}
+use Rattle.merging.specs.Outcomes.{GroupsListed}
 use Rattle.merging.proofs.Mapped.{append-none}
-use Rattle.merging.proofs.TableLaws.{take-more}
-use Rattle.merging.proofs.FormLaws.{plain-forms, FormJoined, Forms, forms-start, forms-end, forms-room, forms-next, other-group, own-group}
+use Rattle.merging.proofs.Fields.{same-eqb}
 use Rattle.merging.proofs.GroupLists.{apart}
-use Rattle.merging_few.specs.Listing.{groupIn, formsFor, IndexFound, FormFits, EffectPut, put-there, put-behind}
+use Rattle.merging_few.specs.Listing.{groupIn, formsFor, Formed, AllFormed, IndexFound, EffectPut, put-before, put-there, put-behind}
 use Rattle.merging_few.proofs.Listed.{listed-means}
+use Rattle.merging_few.proofs.Formed.{forms-none, formed-next}
 
--- The loop: the groups of the effects so far, each with its forms among them.
-pub record Listing (work : List ℕ) (m : ℕ) (listed : List ℕ) (i k : ℕ) : Type 0 where
-  pub few : k ≤ i
-  pub count : k ≡ length (groupsIn (take i work))
-  pub groups : (j : ℕ) → j < k → groupIn listed j ≡ getD (groupsIn (take i work)) j 0
-  pub forms : (j : ℕ) → j < k → Forms work m (groupIn listed j) (formsFor listed j) i
-  pub others : (g : ℕ) → ((j : ℕ) → j < k → groupIn listed j ≡ g → ⊥) → Forms work m g 0 i
+-- The groups of some effects, each with its forms.
+pub record Listing (es listed : List ℕ) (k : ℕ) : Type 0 where
+  pub few : k ≤ length es
+  pub count : k ≡ length (groupsIn es)
+  pub groups : (j : ℕ) → j < k → groupIn listed j ≡ getD (groupsIn es) j 0
+  pub formed : AllFormed listed k
+  pub forms : (j : ℕ) → j < k → places (formsFor listed j) ≡ formsOf (groupIn listed j) es
+  pub others : (g : ℕ) → ((j : ℕ) → j < k → groupIn listed j ≡ g → ⊥) → formsOf g es ≡ []
 
-pub listing-start : (work listed : List ℕ) (m : ℕ) → Listing work m listed 0 0
-listing-start work listed m = record {
+pub listing-start : (listed : List ℕ) → Listing [] listed 0
+listing-start listed = record {
   few = omega arith;
   count = refl;
   groups = λ j h. absurd (omega arith);
+  formed = λ j h. absurd (omega arith);
   forms = λ j h. absurd (omega arith);
-  others = λ g h. forms-start work m g;
+  others = λ g h. refl;
 }
+
+-- An effect is told by its group and its form, so it stands among others if its form stands among those of its group.
+bare-group : (w : ℕ) → bare w ≡ groupNumber w + formNumber w * 4
+bare-group w = omega arith
+
+group-of-bare : (w : ℕ) → groupNumber w ≡ groupNumber (bare w)
+group-of-bare w =
+    let p : w / 32 % 4096 ≡ w % 131072 / 32 % 4096 = omega arith in
+    let q : w % 4 ≡ w % 131072 % 4 = omega arith in
+    ap₂ (λ (x y : ℕ). x * 32 + y) p q
+
+form-stands : (e : ℕ) (l : List ℕ) → memberOf (formsOf (groupNumber e) l) (formNumber e) ≡ any (λ u. eqb (bare u) (bare e)) l
+form-stands e [] = refl
+form-stands e (u ∷ l) = by-cases (eqb (groupNumber u) (groupNumber e)) refl (form-stands e l)
+  where
+    own : groupNumber u ≡ groupNumber e → eqb (formNumber e) (formNumber u) ≡ eqb (bare u) (bare e)
+    own q =
+        same-eqb (formNumber e) (formNumber u) (bare u) (bare e)
+        (λ d. bare-group u ∙ ap₂ (λ (x y : ℕ). x + y * 4) q (sym d) ∙ sym (bare-group e))
+        (λ d. parted (groupNumber e) (formNumber e) (formNumber u) (bare u) (ap (λ (x : ℕ). x + formNumber u * 4) (sym q) ∙ sym (bare-group u)) (sym (bare-group e) ∙ sym d))
+      where
+        parted : (g x y b : ℕ) → g + y * 4 ≡ b → g + x * 4 ≡ b → x ≡ y
+        parted g x y b h k = omega (arith, h, k)
+
+    other : (groupNumber u ≡ groupNumber e → ⊥) → eqb (bare u) (bare e) ≡ false
+    other d = ne-eqb (bare u) (bare e) (λ q. d (group-of-bare u ∙ ap groupNumber q ∙ sym (group-of-bare e)))
+
+    by-cases :
+        (t : Bool) → eqb (groupNumber u) (groupNumber e) ≡ t
+        → memberOf (formsOf (groupNumber e) l) (formNumber e) ≡ any (λ u. eqb (bare u) (bare e)) l
+        → memberOf
+        (map formNumber (cond t (u ∷ keep (λ x. eqb (groupNumber x) (groupNumber e)) l) (keep (λ x. eqb (groupNumber x) (groupNumber e)) l)))
+        (formNumber e)
+        ≡ eqb (bare u) (bare e) || any (λ u. eqb (bare u) (bare e)) l
+    by-cases true q r = ap₂ _||_ (own (eqb-true (groupNumber u) (groupNumber e) q)) r
+    by-cases false q r = r ∙ sym (ap (λ (s : Bool). s || any (λ u. eqb (bare u) (bare e)) l) (other (eqb-false (groupNumber u) (groupNumber e) q)))
 
 -- whether one stands in a list, by its index
 stands-at : (l : List ℕ) (j g : ℕ) → j < length l → getD l j 0 ≡ g → any (λ y. eqb y g) l ≡ true
@@ -66,158 +106,194 @@ groups-more l e =
     (sym (any-firsts eqb eqb-true (λ y. eqb y (groupNumber e)) (map groupNumber l)))
 
 -- one effect more
-module _ {work b : List ℕ} {m i k : ℕ} (so : i < m) (room : m ≤ length work) (plain : Plain (take m work)) (v : Listing work m b i k) where
-  abbrev effect : ℕ
-  effect = getD work i 0
+forms-more : (g : ℕ) (l : List ℕ) (e : ℕ) → formsOf g (l ++ e ∷ []) ≡ formsOf g l ++ map formNumber (cond (eqb (groupNumber e) g) (e ∷ []) [])
+forms-more g l e =
+    let p : ℕ → Bool = λ x. eqb (groupNumber x) g in
+    ap (map formNumber) (keep-append p l (e ∷ [])) ∙ map-append formNumber (keep p l) (keep p (e ∷ []))
 
-  grown : groupsIn (take (i + 1) work)
-      ≡ groupsIn (take i work) ++ cond (any (λ y. eqb y (groupNumber effect)) (groupsIn (take i work))) [] (groupNumber effect ∷ [])
-  grown = ap groupsIn (take-more work i (omega arith)) ∙ groups-more (take i work) effect
+form-other : (g : ℕ) (l : List ℕ) (e : ℕ) → (groupNumber e ≡ g → ⊥) → formsOf g (l ++ e ∷ []) ≡ formsOf g l
+form-other g l e h = rw (ne-eqb (groupNumber e) g h) at (forms-more g l e) ∙ append-none (formsOf g l)
 
-  form-next : (g packed r : ℕ) → Forms work m g packed i → FormJoined packed effect g r → Forms work m g r (i + 1)
-  form-next g packed r f j = forms-next so room (plain-forms g plain) f j
+form-own : (g : ℕ) (l : List ℕ) (e : ℕ) → groupNumber e ≡ g → formsOf g (l ++ e ∷ []) ≡ formsOf g l ++ formNumber e ∷ []
+form-own g l e h = rw (eq-eqb (groupNumber e) g h) at (forms-more g l e)
 
-  -- a group that is not the effect's has no form more
-  form-other : (g packed : ℕ) → Forms work m g packed i → (groupNumber effect ≡ g → ⊥) → Forms work m g packed (i + 1)
-  form-other g packed f h = form-next g packed packed f (other-group packed effect g h (f .snug))
+-- what the form of a new effect makes of its group's
+joined-new : (packed e x : ℕ) → memberOf (places packed) (formNumber e) ≡ false → Joined packed (formNumber e) x → places x ≡ places packed ++ formNumber e ∷ []
+joined-new packed e x new f = rw new at (f .all)
 
-  form-own : (g packed r : ℕ) → Forms work m g packed i → groupNumber effect ≡ g → Joined packed (formNumber effect) r → Forms work m g r (i + 1)
-  form-own g packed r f h j = form-next g packed r f (own-group packed effect g h j)
+module _ {es b : List ℕ} {k : ℕ} (e : ℕ) (v : Listing es b k) where
+  abbrev more : List ℕ
+  more = es ++ e ∷ []
 
-  pub form-fits : FormFits b k effect
-  form-fits j h e = (v .forms j h .snug, forms-room so room (plain-forms (groupIn b j) plain) (v .forms j h) (sym e))
+  longer-by-one : length more ≡ length es + 1
+  longer-by-one = length-append es (e ∷ [])
 
   -- no two of the groups are the same
   groups-apart : (j l : ℕ) → j < k → l < k → groupIn b j ≡ groupIn b l → j ≡ l
-  groups-apart j l h g e =
-      apart (groupsIn (take i work)) (firsts-once eqb (map groupNumber (take i work))) j l (omega (arith, v .count, h)) (omega (arith, v .count, g))
-      (sym (v .groups j h) ∙ e ∙ v .groups l g)
+  groups-apart j l h g q =
+      apart (groupsIn es) (firsts-once eqb (map groupNumber es)) j l (omega (arith, v .count, h)) (omega (arith, v .count, g))
+      (sym (v .groups j h) ∙ q ∙ v .groups l g)
+
+  -- whether it is among the effects, by its group
+  stands-there :
+      (j : ℕ) → j < k → groupIn b j ≡ groupNumber e
+      → memberOf (places (formsFor b j)) (formNumber e) ≡ any (λ u. eqb (bare u) (bare e)) es
+  stands-there j h own =
+      ap (λ (l : List ℕ). memberOf l (formNumber e)) (v .forms j h ∙ ap (λ (g : ℕ). formsOf g es) own) ∙ form-stands e es
+
+  stands-not : ((j : ℕ) → j < k → groupIn b j ≡ groupNumber e → ⊥) → any (λ u. eqb (bare u) (bare e)) es ≡ false
+  stands-not new = sym (form-stands e es) ∙ ap (λ (l : List ℕ). memberOf l (formNumber e)) (v .others (groupNumber e) new)
 
   -- its group is there
-  module _ (j x : ℕ) (low : j < k) (wide : 2 * k ≤ length b) (own : groupIn b j ≡ groupNumber effect) (f : Joined (formsFor b j) (formNumber effect) x) where
+  module _ (j x : ℕ) (low : j < k) (wide : 2 * k ≤ length b) (own : groupIn b j ≡ groupNumber e)
+      (new : memberOf (places (formsFor b j)) (formNumber e) ≡ false) (f : Joined (formsFor b j) (formNumber e) x) where
     abbrev joined : List ℕ
     joined = set b (2 * j + 1) x
 
     group-kept : (l : ℕ) → groupIn joined l ≡ groupIn b l
-    group-kept l = getD-set-other b (2 * j + 1) (2 * l) x 0 (λ e. omega (arith, e))
+    group-kept l = getD-set-other b (2 * j + 1) (2 * l) x 0 (λ q. omega (arith, q))
 
-    same-groups : groupsIn (take (i + 1) work) ≡ groupsIn (take i work)
+    forms-own : formsFor joined j ≡ x
+    forms-own = getD-set-same b (2 * j + 1) x 0 (omega (arith, wide, low))
+
+    forms-kept : (l : ℕ) → (l ≡ j → ⊥) → formsFor joined l ≡ formsFor b l
+    forms-kept l d = getD-set-other b (2 * j + 1) (2 * l + 1) x 0 (λ q. d (omega (arith, q)))
+
+    same-groups : groupsIn more ≡ groupsIn es
     same-groups =
-        let t : any (λ y. eqb y (groupNumber effect)) (groupsIn (take i work)) ≡ true =
-        stands-at (groupsIn (take i work)) j (groupNumber effect) (omega (arith, v .count, low)) (sym (v .groups j low) ∙ own) in
-        rw t at grown ∙ append-none (groupsIn (take i work))
+        let t : any (λ y. eqb y (groupNumber e)) (groupsIn es) ≡ true =
+        stands-at (groupsIn es) j (groupNumber e) (omega (arith, v .count, low)) (sym (v .groups j low) ∙ own) in
+        rw t at (groups-more es e) ∙ append-none (groupsIn es)
 
-    forms-joined : (l : ℕ) → l < k → Forms work m (groupIn joined l) (formsFor joined l) (i + 1)
-    forms-joined l h = subst (λ (g : ℕ). Forms work m g (formsFor joined l) (i + 1)) (sym (group-kept l)) (by-cases (eqb l j) refl)
+    all-formed : AllFormed joined k
+    all-formed l h = by-cases (eqb l j) refl
       where
-        by-cases : (t : Bool) → eqb l j ≡ t → Forms work m (groupIn b l) (formsFor joined l) (i + 1)
+        by-cases : (t : Bool) → eqb l j ≡ t → Formed (formsFor joined l)
         by-cases true q =
-            let e : l ≡ j = eqb-true l j q in
-            let there : formsFor joined l ≡ x =
-            ap (formsFor joined) e ∙ getD-set-same b (2 * j + 1) x 0 (omega (arith, wide, low)) in
-            subst (λ (y : ℕ). Forms work m (groupIn b l) y (i + 1)) (sym there)
-            (form-own (groupIn b l) (formsFor b l) x (v .forms l h) (sym own ∙ ap (groupIn b) (sym e))
-            (subst (λ (o : ℕ). Joined (formsFor b o) (formNumber effect) x) (sym e) f))
+            subst Formed (sym (ap (formsFor joined) (eqb-true l j q) ∙ forms-own)) (formed-next (v .formed j low) (omega arith) f)
+        by-cases false q = subst Formed (sym (forms-kept l (eqb-false l j q))) (v .formed l h)
+
+    all-forms : (l : ℕ) → l < k → places (formsFor joined l) ≡ formsOf (groupIn joined l) more
+    all-forms l h = by-cases (eqb l j) refl ∙ ap (λ (g : ℕ). formsOf g more) (sym (group-kept l))
+      where
+        by-cases : (t : Bool) → eqb l j ≡ t → places (formsFor joined l) ≡ formsOf (groupIn b l) more
+        by-cases true q =
+            let same : l ≡ j = eqb-true l j q in
+            ap places (ap (formsFor joined) same ∙ forms-own)
+            ∙ joined-new (formsFor b j) e x new f
+            ∙ ap (λ (fs : List ℕ). fs ++ formNumber e ∷ []) (v .forms j low)
+            ∙ sym (form-own (groupIn b j) es e (sym own))
+            ∙ ap (λ (o : ℕ). formsOf (groupIn b o) more) (sym same)
         by-cases false q =
             let d : l ≡ j → ⊥ = eqb-false l j q in
-            let there : formsFor joined l ≡ formsFor b l =
-            getD-set-other b (2 * j + 1) (2 * l + 1) x 0 (λ e. d (omega (arith, e))) in
-            subst (λ (y : ℕ). Forms work m (groupIn b l) y (i + 1)) (sym there)
-            (form-other (groupIn b l) (formsFor b l) (v .forms l h) (λ e. d (groups-apart l j h low (sym e ∙ sym own))))
+            ap places (forms-kept l d)
+            ∙ v .forms l h
+            ∙ sym (form-other (groupIn b l) es e (λ p. d (groups-apart l j h low (sym p ∙ sym own))))
 
-    listing-there : Listing work m joined (i + 1) k
+    listing-there : Listing more joined k
     listing-there = record {
-      few = omega (arith, v .few);
+      few = omega (arith, v .few, longer-by-one);
       count = v .count ∙ sym (ap length same-groups);
       groups = λ l h. group-kept l ∙ v .groups l h ∙ sym (ap (λ (gs : List ℕ). getD gs l 0) same-groups);
-      forms = forms-joined;
+      formed = all-formed;
+      forms = all-forms;
       others = λ g h.
-          form-other g 0 (v .others g (λ l q e. h l q (group-kept l ∙ e))) (λ e. h j low (group-kept j ∙ own ∙ e));
+          form-other g es e (λ q. h j low (group-kept j ∙ own ∙ q)) ∙ v .others g (λ l p q. h l p (group-kept l ∙ q));
     }
 
   -- its group is new
-  module _ (x : ℕ) (wide : 2 * k + 1 < length b) (new : (j : ℕ) → j < k → groupIn b j ≡ groupNumber effect → ⊥) (f : Joined 0 (formNumber effect) x) where
+  module _ (x : ℕ) (wide : 2 * k + 1 < length b) (new : (j : ℕ) → j < k → groupIn b j ≡ groupNumber e → ⊥) (f : Joined 0 (formNumber e) x) where
     abbrev longer : List ℕ
-    longer = set (set b (2 * k) (groupNumber effect)) (2 * k + 1) x
+    longer = set (set b (2 * k) (groupNumber e)) (2 * k + 1) x
 
     group-before : (l : ℕ) → l < k → groupIn longer l ≡ groupIn b l
     group-before l h =
-        getD-set-other (set b (2 * k) (groupNumber effect)) (2 * k + 1) (2 * l) x 0 (λ e. omega (arith, e))
-        ∙ getD-set-other b (2 * k) (2 * l) (groupNumber effect) 0 (λ e. omega (arith, e, h))
+        getD-set-other (set b (2 * k) (groupNumber e)) (2 * k + 1) (2 * l) x 0 (λ q. omega (arith, q))
+        ∙ getD-set-other b (2 * k) (2 * l) (groupNumber e) 0 (λ q. omega (arith, q, h))
 
     forms-before : (l : ℕ) → l < k → formsFor longer l ≡ formsFor b l
     forms-before l h =
-        getD-set-other (set b (2 * k) (groupNumber effect)) (2 * k + 1) (2 * l + 1) x 0 (λ e. omega (arith, e, h))
-        ∙ getD-set-other b (2 * k) (2 * l + 1) (groupNumber effect) 0 (λ e. omega (arith, e, h))
+        getD-set-other (set b (2 * k) (groupNumber e)) (2 * k + 1) (2 * l + 1) x 0 (λ q. omega (arith, q, h))
+        ∙ getD-set-other b (2 * k) (2 * l + 1) (groupNumber e) 0 (λ q. omega (arith, q, h))
 
-    group-last : groupIn longer k ≡ groupNumber effect
+    group-last : groupIn longer k ≡ groupNumber e
     group-last =
-        getD-set-other (set b (2 * k) (groupNumber effect)) (2 * k + 1) (2 * k) x 0 (λ e. omega (arith, e))
-        ∙ getD-set-same b (2 * k) (groupNumber effect) 0 (omega (arith, wide))
+        getD-set-other (set b (2 * k) (groupNumber e)) (2 * k + 1) (2 * k) x 0 (λ q. omega (arith, q))
+        ∙ getD-set-same b (2 * k) (groupNumber e) 0 (omega (arith, wide))
 
     forms-last : formsFor longer k ≡ x
     forms-last =
-        getD-set-same (set b (2 * k) (groupNumber effect)) (2 * k + 1) x 0 (omega (arith, wide, length-set b (2 * k) (groupNumber effect)))
+        getD-set-same (set b (2 * k) (groupNumber e)) (2 * k + 1) x 0 (omega (arith, wide, length-set b (2 * k) (groupNumber e)))
 
-    one-more : groupsIn (take (i + 1) work) ≡ groupsIn (take i work) ++ groupNumber effect ∷ []
+    one-more : groupsIn more ≡ groupsIn es ++ groupNumber e ∷ []
     one-more =
-        let t : any (λ y. eqb y (groupNumber effect)) (groupsIn (take i work)) ≡ false =
-        stands-nowhere (groupsIn (take i work)) (groupNumber effect)
-        (λ j h e. let l : j < k = omega (arith, h, v .count) in new j l (v .groups j l ∙ e)) in
-        rw t at grown
+        let t : any (λ y. eqb y (groupNumber e)) (groupsIn es) ≡ false =
+        stands-nowhere (groupsIn es) (groupNumber e)
+        (λ j h q. let l : j < k = omega (arith, h, v .count) in new j l (v .groups j l ∙ q)) in
+        rw t at (groups-more es e)
 
-    groups-longer : (l : ℕ) → l < k + 1 → groupIn longer l ≡ getD (groupsIn (take (i + 1) work)) l 0
-    groups-longer l h = by-cases (eqb l k) refl ∙ sym (ap (λ (gs : List ℕ). getD gs l 0) one-more)
+    -- the last of the groups is the new one
+    last-or : (P : ℕ → Type 0) → P k → ((l : ℕ) → l < k → P l) → (l : ℕ) → l < k + 1 → P l
+    last-or P own others l h = by-cases (eqb l k) refl
       where
-        by-cases : (t : Bool) → eqb l k ≡ t → groupIn longer l ≡ getD (groupsIn (take i work) ++ groupNumber effect ∷ []) l 0
-        by-cases true q =
-            let e : l ≡ k = eqb-true l k q in
-            let gs = groupsIn (take i work) in
-            ap (groupIn longer) e
-            ∙ group-last
-            ∙ sym
-            (ap (λ (o : ℕ). getD (gs ++ groupNumber effect ∷ []) o 0) (e ∙ v .count) ∙ getD-append-seam gs (groupNumber effect) [] 0)
-        by-cases false q =
-            let d : l ≡ k → ⊥ = eqb-false l k q in
-            let o : l < k = omega (arith, d, h) in
-            let gs = groupsIn (take i work) in
-            group-before l o
-            ∙ v .groups l o
-            ∙ sym (List·getD-append gs (groupNumber effect ∷ []) 0 l (omega (arith, o, v .count)))
+        by-cases : (t : Bool) → eqb l k ≡ t → P l
+        by-cases true q = subst P (sym (eqb-true l k q)) own
+        by-cases false q = let d : l ≡ k → ⊥ = eqb-false l k q in others l (omega (arith, d, h))
 
-    forms-longer : (l : ℕ) → l < k + 1 → Forms work m (groupIn longer l) (formsFor longer l) (i + 1)
-    forms-longer l h = by-cases (eqb l k) refl
-      where
-        by-cases : (t : Bool) → eqb l k ≡ t → Forms work m (groupIn longer l) (formsFor longer l) (i + 1)
-        by-cases true q =
-            subst (λ (o : ℕ). Forms work m (groupIn longer o) (formsFor longer o) (i + 1)) (sym (eqb-true l k q))
-            (subst (λ (g : ℕ). Forms work m g (formsFor longer k) (i + 1)) (sym group-last)
-            (subst (λ (y : ℕ). Forms work m (groupNumber effect) y (i + 1)) (sym forms-last)
-            (form-own (groupNumber effect) 0 x (v .others (groupNumber effect) new) refl f)))
-        by-cases false q =
-            let d : l ≡ k → ⊥ = eqb-false l k q in
-            let o : l < k = omega (arith, d, h) in
-            subst (λ (g : ℕ). Forms work m g (formsFor longer l) (i + 1)) (sym (group-before l o))
-            (subst (λ (y : ℕ). Forms work m (groupIn b l) y (i + 1)) (sym (forms-before l o))
-            (form-other (groupIn b l) (formsFor b l) (v .forms l o) (λ e. new l o (sym e))))
+    groups-longer : (l : ℕ) → l < k + 1 → groupIn longer l ≡ getD (groupsIn es ++ groupNumber e ∷ []) l 0
+    groups-longer =
+        last-or (λ l. groupIn longer l ≡ getD (groupsIn es ++ groupNumber e ∷ []) l 0)
+        (group-last
+        ∙ sym
+        (ap (λ (o : ℕ). getD (groupsIn es ++ groupNumber e ∷ []) o 0) (v .count) ∙ getD-append-seam (groupsIn es) (groupNumber e) [] 0))
+        (λ l h.
+        group-before l h
+        ∙ v .groups l h
+        ∙ sym (List·getD-append (groupsIn es) (groupNumber e ∷ []) 0 l (omega (arith, h, v .count))))
 
-    listing-behind : Listing work m longer (i + 1) (k + 1)
+    first-form : places x ≡ formsOf (groupNumber e) more
+    first-form =
+        joined-new 0 e x (ap (λ (l : List ℕ). memberOf l (formNumber e)) (no-place 0 refl)) f
+        ∙ ap (λ (fs : List ℕ). fs ++ formNumber e ∷ []) (no-place 0 refl ∙ sym (v .others (groupNumber e) new))
+        ∙ sym (form-own (groupNumber e) es e refl)
+
+    forms-longer : (l : ℕ) → l < k + 1 → places (formsFor longer l) ≡ formsOf (groupIn longer l) more
+    forms-longer =
+        last-or (λ l. places (formsFor longer l) ≡ formsOf (groupIn longer l) more)
+        (ap places forms-last ∙ first-form ∙ ap (λ (g : ℕ). formsOf g more) (sym group-last))
+        (λ l h.
+        ap places (forms-before l h)
+        ∙ v .forms l h
+        ∙ sym (form-other (groupIn b l) es e (λ q. new l h (sym q)))
+        ∙ ap (λ (g : ℕ). formsOf g more) (sym (group-before l h)))
+
+    listing-behind : Listing more longer (k + 1)
     listing-behind = record {
-      few = omega (arith, v .few);
-      count = omega (arith, v .count, ap length one-more, length-append (groupsIn (take i work)) (groupNumber effect ∷ []));
-      groups = groups-longer;
+      few = omega (arith, v .few, longer-by-one);
+      count = omega (arith, v .count, ap length one-more, length-append (groupsIn es) (groupNumber e ∷ []));
+      groups = λ l h. groups-longer l h ∙ sym (ap (λ (gs : List ℕ). getD gs l 0) one-more);
+      formed =
+          last-or (λ l. Formed (formsFor longer l))
+          (subst Formed (sym forms-last) (formed-next forms-none (omega arith) f))
+          (λ l h. subst Formed (sym (forms-before l h)) (v .formed l h));
       forms = forms-longer;
       others = λ g h.
-          form-other g 0
-          (v .others g (λ l q e. h l (omega (arith, q)) (group-before l q ∙ e)))
-          (λ e. h k (omega arith) (group-last ∙ e));
+          form-other g es e (λ q. h k (omega arith) (group-last ∙ q))
+          ∙ v .others g (λ l p q. h l (omega (arith, p)) (group-before l p ∙ q));
     }
 
-  pub listing-next : {c : List ℕ} {r : ℕ} → 2 * k + 1 < length b → EffectPut b c k effect r → Listing work m c (i + 1) r
-  listing-next wide (put-there j x low own f e) =
-      subst (λ (l : List ℕ). Listing work m l (i + 1) k) (sym e) (listing-there j x low (omega (arith, wide)) own f)
-  listing-next wide (put-behind x new f e) =
-      subst (λ (l : List ℕ). Listing work m l (i + 1) (k + 1)) (sym e) (listing-behind x wide new f)
+  -- whether it is a repeat, and the groups with it
+  pub put-told : {c : List ℕ} {t : Bool} {r : ℕ} → EffectPut b c k e t r → any (λ u. eqb (bare u) (bare e)) es ≡ t
+  put-told (put-before j low own there q) = sym (stands-there j low own) ∙ there
+  put-told (put-there j x low own new f q) = sym (stands-there j low own) ∙ new
+  put-told (put-behind x new f q) = stands-not new
+
+  pub listing-next : {c : List ℕ} {t : Bool} {r : ℕ} → 2 * k + 1 < length b → EffectPut b c k e t r → Listing (cond t es more) c r
+  listing-next wide (put-before j low own there q) = subst (λ (l : List ℕ). Listing es l k) (sym q) v
+  listing-next wide (put-there j x low own new f q) =
+      subst (λ (l : List ℕ). Listing more l k) (sym q) (listing-there j x low (omega (arith, wide)) own new f)
+  listing-next wide (put-behind x new f q) =
+      subst (λ (l : List ℕ). Listing more l (k + 1)) (sym q) (listing-behind x wide new f)
 
 -- none of one group more
 pub index-next :
@@ -232,7 +308,7 @@ index-next listed {g} {j} before here l h = by-cases (eqb l j) refl
 -- an effect whose group is nowhere, as code has it
 pub behind-put :
     {b : List ℕ} {k e g j x : ℕ} → g ≡ groupNumber e → IndexFound b k g j → k ≤ j → Joined 0 (formNumber e) x
-    → EffectPut b (set (set b (2 * k) g) (2 * k + 1) x) k e (k + 1)
+    → EffectPut b (set (set b (2 * k) g) (2 * k + 1) x) k e false (k + 1)
 behind-put {b} {k} {e} {g} {j} {x} own found h f =
     put-behind x
     (λ l q d. found .before l (omega (arith, h, q)) (d ∙ sym own))
@@ -240,16 +316,15 @@ behind-put {b} {k} {e} {g} {j} {x} own found h f =
     (ap (λ (y : ℕ). set (set b (2 * k) y) (2 * k + 1) x) own)
 
 -- so long is the run afterwards
-pub put-length : {b c : List ℕ} {k e r : ℕ} → EffectPut b c k e r → length c ≡ length b
-put-length {b} (put-there j x low own f q) = ap length q ∙ length-set b (2 * j + 1) x
+pub put-length : {b c : List ℕ} {k e r : ℕ} {t : Bool} → EffectPut b c k e t r → length c ≡ length b
+put-length (put-before j low own there q) = ap length q
+put-length {b} (put-there j x low own new f q) = ap length q ∙ length-set b (2 * j + 1) x
 put-length {b} {k = k} {e = e} (put-behind x new f q) =
     ap length q ∙ length-set (set b (2 * k) (groupNumber e)) (2 * k + 1) x ∙ length-set b (2 * k) (groupNumber e)
 
 pub listing-end :
-    {work listed : List ℕ} {m i k : ℕ} → m ≤ 64 → m ≤ length work → i ≡ m → Listing work m listed i k
+    (work : List ℕ) (m : ℕ) {listed : List ℕ} {k : ℕ} → m ≤ 64 → m ≤ length work → Listing (take m work) listed k
     → GroupsListed (map effectOf (take m work)) listed k
-listing-end {work} {listed} {m} {i} {k} low room e v =
-    listed-means work listed m low room k (omega (arith, v .few, e))
-    (v .count ∙ ap (λ (n : ℕ). length (groupsIn (take n work))) e)
-    (λ j h. v .groups j h ∙ ap (λ (n : ℕ). getD (groupsIn (take n work)) j 0) e)
-    (λ j h. forms-end (omega (arith, e)) (v .forms j h))
+listing-end work m {listed} {k} low room v =
+    listed-means work listed m low room k (omega (arith, v .few, length-take-le m work room, low)) (v .count) (v .groups)
+    (λ j h. record { all = v .forms j h; snug = v .formed j h .snug })

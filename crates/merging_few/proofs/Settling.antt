@@ -22,7 +22,7 @@ use Rattle.merging_few.specs.declared.Found.{Found}
 use Rattle.merging_few.specs.declared.Found.the-variants as found
 use Rattle.merging_few.specs.Scans.{passesBy, foundAs}
 use Rattle.merging_few.specs.Passes.{stayBy, twinsGone}
-use Rattle.merging_few.proofs.Staying.{overridden-gone, none-explicit, twins-gone, none-mandatory, repeats-gone}
+use Rattle.merging_few.proofs.Staying.{overridden-gone, none-explicit, twins-gone, none-mandatory}
 
 -- what is left is another run, or is all
 left-as : {l m a b : List ℕ} {n r : ℕ} → l ≡ m → Left l n a b r → Left m n a b r
@@ -45,13 +45,14 @@ module _ (a : List ℕ) (n : ℕ) where
   pub twins-all : any (passesBy sought.Mandatory) (take n a) ≡ false → Left (twinsGone (take n a)) n a a n
   twins-all h = left-all a n (none-mandatory (take n a) h)
 
-pub unite-left :
-    {a b c : List ℕ} {n k r : ℕ} → Left (twinsGone (take n a)) n a b k → Left (stayBy passes.Repeated [] (take k b)) k b c r
+-- without twins and without repeats
+unite-left :
+    {a b c : List ℕ} {n k r : ℕ} → Left (twinsGone (take n a)) n a b k → Left (firsts eqb (map bare (take k b))) k b c r
     → Left (unitedIn (take n a)) n a c r
-unite-left {a} {b} {c} {n} {k} v w = record {
+unite-left v w = record {
   kept = kept-on (v .kept) (w .kept);
   few = omega (arith, v .few, w .few);
-  numbers = w .numbers ∙ repeats-gone (take k b) ∙ ap (λ (l : List ℕ). firsts eqb (map bare l)) (v .numbers);
+  numbers = w .numbers ∙ ap (λ (l : List ℕ). firsts eqb (map bare l)) (v .numbers);
 }
 
 -- The answer, from what remains and what is found or merged.
@@ -64,9 +65,12 @@ module _ {a b : List ℕ} {n left : ℕ} {f : Found}
       s
       refl
 
-  pub few-merged : {d : List ℕ} {m : ℕ} → f ≡ found.Nothing → Left (unitedIn (take left b)) left b d m → Settles n a d (outcomes.Effects m)
-  few-merged g u =
+  pub few-merged :
+      {d d' : List ℕ} {k m : ℕ} → f ≡ found.Nothing → Left (twinsGone (take left b)) left b d k
+      → Left (firsts eqb (map bare (take k d))) k d d' m
+      → Settles n a d' (outcomes.Effects m)
+  few-merged g t u =
       merged-settles {f = foundOf none} (omega arith) v
       record { kept = kept-self b; terms = refl; answer = sym (ap foundAs g) ∙ w }
       refl
-      u
+      (unite-left t u)

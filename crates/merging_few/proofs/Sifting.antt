@@ -13,7 +13,7 @@ use Rattle.merging.specs.Passes.{Left}
 use Rattle.merging.proofs.Scans.{slice-next, slice-past}
 use Rattle.merging.proofs.TableLaws.{kept-self, kept-on, kept-set}
 use Rattle.merging_few.specs.declared.Pass.{Pass}
-use Rattle.merging_few.specs.Passes.{goneBy, shownBy, stayBy, goneAt, Moved}
+use Rattle.merging_few.specs.Passes.{goneBy, stayBy, goneAt, Moved}
 
 -- The loop: those that stay so far are the first, and with what stays of the others they are what stays of all.
 pub record Sifting (pass : Pass) (a b : List ℕ) (at i n : ℕ) : Type 0 where
@@ -27,10 +27,8 @@ module _ (pass : Pass) where
     pub one-gone : {t : Bool} → t ≡ goneAt pass b at i n → t ≡ true → Moved pass b b at i n at
     one-gone d h = let g : goneAt pass b at i n ≡ true = sym d ∙ h in record { next = rw g; numbers = rw g }
 
-    pub one-moved :
-        {t : Bool} {x : ℕ} → t ≡ goneAt pass b at i n → t ≡ false → x ≡ shownBy pass (getD b i 0) → Moved pass b (set b at x) at i n (at + 1)
-    one-moved d h e =
-        let g : goneAt pass b at i n ≡ false = sym d ∙ h in record { next = rw g; numbers = rw g (ap (set b at) e) }
+    pub one-moved : {t : Bool} → t ≡ goneAt pass b at i n → t ≡ false → Moved pass b (set b at (getD b i 0)) at i n (at + 1)
+    one-moved d h = let g : goneAt pass b at i n ≡ false = sym d ∙ h in record { next = rw g; numbers = rw g }
 
   pub sifting-start : (a : List ℕ) (n : ℕ) → Sifting pass a a 0 0 n
   sifting-start a n = record { kept = kept-self a; few = omega arith; rest = refl }
@@ -45,13 +43,13 @@ module _ (pass : Pass) where
   module _ {a b : List ℕ} {at i n : ℕ} (so : i < n) (low : n ≤ 64) (room : n ≤ length a) (v : Sifting pass a b at i n) where
     -- what stays, by the test of this term
     by-test :
-        stayBy pass (cond (goneAt pass b at i n) (take at b) (take at b ++ shownBy pass (getD b i 0) ∷ [])) (slice (i + 1) n b)
+        stayBy pass (cond (goneAt pass b at i n) (take at b) (take at b ++ getD b i 0 ∷ [])) (slice (i + 1) n b)
         ≡ stayBy pass [] (take n a)
     by-test =
         let e : slice i n b ≡ getD b i 0 ∷ slice (i + 1) n b = slice-next b i n so (omega (arith, v .kept .size)) in
         ap
         (λ (l : List ℕ).
-        stayBy pass (cond (goneBy pass (take at b) l (getD b i 0)) (take at b) (take at b ++ shownBy pass (getD b i 0) ∷ [])) (slice (i + 1) n b))
+        stayBy pass (cond (goneBy pass (take at b) l (getD b i 0)) (take at b) (take at b ++ getD b i 0 ∷ [])) (slice (i + 1) n b))
         e
         ∙ sym (ap (stayBy pass (take at b)) e)
         ∙ v .rest
@@ -64,9 +62,9 @@ module _ (pass : Pass) where
     left-so x =
         ap (drop (i + 1)) (take-set-lt n b at x (omega (arith, v .few))) ∙ drop-set-lt (i + 1) (take n b) at x (omega (arith, v .few))
 
-    moves : goneAt pass b at i n ≡ false → Sifting pass a (set b at (shownBy pass (getD b i 0))) (at + 1) (i + 1) n
+    moves : goneAt pass b at i n ≡ false → Sifting pass a (set b at (getD b i 0)) (at + 1) (i + 1) n
     moves g =
-        let x = shownBy pass (getD b i 0) in
+        let x = getD b i 0 in
         let front : take (at + 1) (set b at x) ≡ take at b ++ x ∷ [] =
         ap (λ (k : ℕ). take k (set b at x)) (add-one at) ∙ take-suc-set b at x (omega (arith, v .few, v .kept .size)) in
         record {
@@ -79,7 +77,7 @@ module _ (pass : Pass) where
     sifting-next {c} {r} m = by-cases (goneAt pass b at i n) refl (m .numbers) (m .next)
       where
         by-cases :
-            (t : Bool) → goneAt pass b at i n ≡ t → c ≡ cond t b (set b at (shownBy pass (getD b i 0))) → r ≡ cond t at (at + 1)
+            (t : Bool) → goneAt pass b at i n ≡ t → c ≡ cond t b (set b at (getD b i 0)) → r ≡ cond t at (at + 1)
             → Sifting pass a c r (i + 1) n
         by-cases true g e k =
             subst (λ (y : ℕ). Sifting pass a c y (i + 1) n) (sym k) (subst (λ (x : List ℕ). Sifting pass a x at (i + 1) n) (sym e) (goes g))

@@ -7,22 +7,21 @@ use mathlib.Core.Bool.{Bool, true, false, cond, not, _&&_, _||_, true≢false}
 use mathlib.Core.List.{List, [], _∷_, _++_, map, append-assoc}
 use borrow.Author.Tests.{eq-eqb, eqb-true, eqb-false}
 use lib.Dec.{eqb}
-use Rattle.resolving.specs.Lists.{any, keep, firsts}
+use Rattle.resolving.specs.Lists.{any, keep}
 use Rattle.resolving.specs.Effects.{Effect}
 use Rattle.resolving.specs.Merging.{samePair, sameForm, isMandatory}
 use Rattle.resolving_laws.specs.Flat.{Term}
 use Rattle.resolving_laws.proofs.All.{neither-one}
-use Rattle.resolving_laws.proofs.Appended.{any-append, keep-append, map-append, firsts-one-more}
-use Rattle.resolving_laws.proofs.Runs.{any-firsts}
+use Rattle.resolving_laws.proofs.Appended.{any-append, keep-append}
 use Rattle.merging.specs.Packing.{effectOf, termOf, bare, pairOf}
 use Rattle.merging.specs.Runs.{overriddenIn, remainingIn, alsoMandatoryIn}
 use Rattle.merging.proofs.Mapped.{append-none, any-map}
-use Rattle.merging.proofs.Fields.{both-eqb, pair-eqb, mandatory-eqb, bare-twice}
+use Rattle.merging.proofs.Fields.{both-eqb, pair-eqb, mandatory-eqb}
 use Rattle.merging_few.specs.declared.Pass.{Pass}
 use Rattle.merging_few.specs.declared.Pass.the-variants as passes
 use Rattle.merging_few.specs.declared.Sought.the-variants as sought
 use Rattle.merging_few.specs.Scans.{passesBy}
-use Rattle.merging_few.specs.Passes.{among, goneBy, shownBy, stayBy, twinsGone}
+use Rattle.merging_few.specs.Passes.{among, goneBy, stayBy, twinsGone}
 
 -- Tests of lists.
 
@@ -47,8 +46,8 @@ keep-each : (p : ℕ → Bool) → ((w : ℕ) → p w ≡ true) → (l : List �
 keep-each p h [] = refl
 keep-each p h (x ∷ l) = ap₂ (λ (t : Bool) (m : List ℕ). cond t (x ∷ m) m) (h x) (keep-each p h l)
 
--- A pass that shows terms as they are keeps those that do not lose, if a term goes where it loses.
-module _ (pass : Pass) (own : (w : ℕ) → shownBy pass w ≡ w) (loses : ℕ → Bool) (whole : List ℕ)
+-- A pass keeps those that do not lose, if a term goes where it loses.
+module _ (pass : Pass) (loses : ℕ → Bool) (whole : List ℕ)
     (same :
     (d : List ℕ) (w : ℕ) (k : List ℕ) → d ++ w ∷ k ≡ whole → goneBy pass (keep (λ u. not (loses u)) d) (w ∷ k) w ≡ loses w) where
   abbrev stay : List ℕ → List ℕ
@@ -56,9 +55,9 @@ module _ (pass : Pass) (own : (w : ℕ) → shownBy pass w ≡ w) (loses : ℕ �
 
   one-sifted :
       (d : List ℕ) (w : ℕ) (k : List ℕ) → d ++ w ∷ k ≡ whole
-      → cond (goneBy pass (stay d) (w ∷ k) w) (stay d) (stay d ++ shownBy pass w ∷ []) ≡ stay (d ++ w ∷ [])
+      → cond (goneBy pass (stay d) (w ∷ k) w) (stay d) (stay d ++ w ∷ []) ≡ stay (d ++ w ∷ [])
   one-sifted d w k e =
-      ap₂ (λ (t : Bool) (x : ℕ). cond t (stay d) (stay d ++ x ∷ [])) (same d w k e) (own w)
+      ap (λ (t : Bool). cond t (stay d) (stay d ++ w ∷ [])) (same d w k e)
       ∙ by-cases (loses w)
       ∙ sym (keep-append (λ u. not (loses u)) d (w ∷ []))
     where
@@ -108,7 +107,7 @@ explicit-stays l w u e =
     high v x p h g e = omega arith
 
 pub overridden-gone : (l : List ℕ) → stayBy passes.Overridden [] l ≡ remainingIn l
-overridden-gone l = kept-from passes.Overridden (λ w. refl) (overriddenIn l) l same [] l refl
+overridden-gone l = kept-from passes.Overridden (overriddenIn l) l same [] l refl
   where
     same :
         (d : List ℕ) (w : ℕ) (k : List ℕ) → d ++ w ∷ k ≡ l
@@ -190,7 +189,7 @@ mandatory-stays l w o u e =
     lower x y o e = omega (arith, o, e)
 
 pub twins-gone : (l : List ℕ) → stayBy passes.AlsoMandatory [] l ≡ twinsGone l
-twins-gone l = kept-from passes.AlsoMandatory (λ w. refl) (alsoMandatoryIn l) l same [] l refl
+twins-gone l = kept-from passes.AlsoMandatory (alsoMandatoryIn l) l same [] l refl
   where
     same :
         (d : List ℕ) (w : ℕ) (k : List ℕ) → d ++ w ∷ k ≡ l
@@ -224,36 +223,3 @@ none-mandatory l h = sym (keep-each (λ w. not (alsoMandatoryIn l w)) one l)
         (any-map effectOf (λ (f : Effect). isMandatory f && sameForm (effectOf w) f) l
         ∙ none-both (passesBy sought.Mandatory) (λ u. sameForm (effectOf w) (effectOf u)) l h)
         ∙ either (not (eqb (w % 2) 0))
-
--- Repeats: those that stay so far are the first occurrences.
-seen-before :
-    (d : List ℕ) (w : ℕ) → any (passesBy (sought.Effect (bare w))) (firsts eqb (map bare d)) ≡ any (λ y. eqb y (bare w)) (map bare d)
-seen-before d w =
-    any-firsts eqb eqb-true (passesBy (sought.Effect (bare w))) (map bare d)
-    ∙ any-map bare (passesBy (sought.Effect (bare w))) d
-    ∙ ap (λ (p : ℕ → Bool). any p d) (fun-ext (λ u. ap (λ (x : ℕ). eqb x (bare w)) (bare-twice u)))
-    ∙ sym (any-map bare (λ y. eqb y (bare w)) d)
-
-first-seen :
-    (d : List ℕ) (w : ℕ)
-    → let fs = firsts eqb (map bare d) in
-    cond (any (passesBy (sought.Effect (bare w))) fs) fs (fs ++ bare w ∷ []) ≡ firsts eqb (map bare (d ++ w ∷ []))
-first-seen d w =
-    let fs = firsts eqb (map bare d) in
-    ap (λ (t : Bool). cond t fs (fs ++ bare w ∷ [])) (seen-before d w)
-    ∙ by-cases (any (λ y. eqb y (bare w)) (map bare d)) fs
-    ∙ sym (ap (firsts eqb) (map-append bare d (w ∷ [])) ∙ firsts-one-more eqb (map bare d) (bare w))
-  where
-    by-cases : (t : Bool) (fs : List ℕ) → cond t fs (fs ++ bare w ∷ []) ≡ fs ++ cond t [] (bare w ∷ [])
-    by-cases true fs = sym (append-none fs)
-    by-cases false fs = refl
-
-repeats-from : (d l : List ℕ) → stayBy passes.Repeated (firsts eqb (map bare d)) l ≡ firsts eqb (map bare (d ++ l))
-repeats-from d [] = ap (λ (m : List ℕ). firsts eqb (map bare m)) (sym (append-none d))
-repeats-from d (w ∷ l) =
-    ap (λ (seen : List ℕ). stayBy passes.Repeated seen l) (first-seen d w)
-    ∙ repeats-from (d ++ w ∷ []) l
-    ∙ ap (λ (m : List ℕ). firsts eqb (map bare m)) (append-assoc d (w ∷ []) l)
-
-pub repeats-gone : (l : List ℕ) → stayBy passes.Repeated [] l ≡ firsts eqb (map bare l)
-repeats-gone l = repeats-from [] l

@@ -1,3 +1,4 @@
 pub mod Scans
 pub mod Passes
 pub mod Listing
+pub mod Merging

@@ -21,17 +21,11 @@ among seen left x = any (passesBy x) seen || any (passesBy x) left
 abbrev pub goneBy : Pass → List ℕ → List ℕ → ℕ → Bool
 goneBy passes.Overridden seen left w = not (eqb (w / 131072 % 2) 1) && among seen left (sought.ExplicitOf (pairOf w + 4096))
 goneBy passes.AlsoMandatory seen left w = not (eqb (w % 2) 0) && among seen left (sought.Effect (bare w - 1))
-goneBy passes.Repeated seen left w = any (passesBy (sought.Effect (bare w))) seen
-
-abbrev pub shownBy : Pass → ℕ → ℕ
-shownBy passes.Overridden w = w
-shownBy passes.AlsoMandatory w = w
-shownBy passes.Repeated w = bare w
 
 -- those that stay so far, and what stays of the others
 abbrev pub stayBy : Pass → List ℕ → List ℕ → List ℕ
 stayBy pass seen [] = seen
-stayBy pass seen (w ∷ l) = stayBy pass (cond (goneBy pass seen (w ∷ l) w) seen (seen ++ shownBy pass w ∷ [])) l
+stayBy pass seen (w ∷ l) = stayBy pass (cond (goneBy pass seen (w ∷ l) w) seen (seen ++ w ∷ [])) l
 
 -- one term of a pass: it goes, or is moved behind those that stay so far
 module _ (pass : Pass) (before : List ℕ) (at i n : ℕ) where
@@ -39,7 +33,7 @@ module _ (pass : Pass) (before : List ℕ) (at i n : ℕ) where
   goneAt = goneBy pass (take at before) (slice i n before) (getD before i 0)
 
   abbrev pub movedTo : List ℕ
-  movedTo = cond goneAt before (set before at (shownBy pass (getD before i 0)))
+  movedTo = cond goneAt before (set before at (getD before i 0))
 
 pub record Moved (pass : Pass) (before after : List ℕ) (at i n r : ℕ) : Type 0 where
   pub next : r ≡ cond (goneAt pass before at i n) at (at + 1)

@@ -1,19 +1,20 @@
 // Merging and grouping of few terms by scans, so that no table is needed. The answers are those of `merging`.
 ghost use mathlib.Core.Path.{_≡_};
 ghost use mathlib.Core.Bool.{_||_};
-ghost use mathlib.Core.List.{[], map};
+ghost use mathlib.Core.List.{[]};
 ghost use Prim.Native.Nat.{_*_, _≤_, _<_};
 ghost use lib.ListN.{length, take, getD};
 ghost use lib.Seq.{slice};
+ghost use Rattle.packs.specs.Packs.{Joined};
 ghost use Rattle.resolving.specs.Lists.{any};
-ghost use Rattle.merging.specs.Packing.{effectOf, groupNumber};
-ghost use Rattle.merging.specs.Runs.{remainingIn, forcedIn, unitedIn};
+ghost use Rattle.merging.specs.Packing.{groupNumber};
+ghost use Rattle.merging.specs.Runs.{remainingIn, forcedIn};
 ghost use Rattle.merging.specs.Passes.{Left};
-ghost use Rattle.merging.specs.Outcomes.{Plain, Settles, GroupsListed};
+ghost use Rattle.merging.specs.Outcomes.{Settles};
 ghost use Rattle.merging_few.specs.Scans.{passesBy, forcedAt, foundAs};
-ghost use Rattle.merging_few.specs.Passes.{goneBy, shownBy, stayBy, Moved, twinsGone};
-ghost use Rattle.merging_few.specs.Listing.{IndexFound, FormFits, EffectPut};
-use merging::Outcome;
+ghost use Rattle.merging_few.specs.Passes.{goneBy, stayBy, Moved, twinsGone};
+ghost use Rattle.merging_few.specs.Listing.{IndexFound, Formed, AllFormed, OneUnited};
+ghost use Rattle.merging_few.specs.Merging.{AllUnited, outcomeOf, ListedBy};
 
 // What a scan looks for: an explicit term; a mandatory one; one that is explicit and of a pair, with the pair's number and 4,096; one with
 // an effect; one that forces a term's pair and is of an earlier statement.
@@ -25,16 +26,27 @@ enum Sought {
     ForcesBefore(u32),
 }
 
-// Which terms a pass leaves out: those that an explicit one overrides; optional ones that are mandatory too; repeats.
+// Which terms a pass leaves out: those that an explicit one overrides; optional ones that are mandatory too.
 enum Pass {
     Overridden,
     AlsoMandatory,
-    Repeated,
 }
 
 enum Found {
     Forced(u32),
     Nothing,
+}
+
+// How many merged effects there are, and how many groups of them.
+pub struct United {
+    pub effects: usize,
+    pub groups: usize,
+}
+
+// What merging answers: the statement that forces a pair again, or how many effects and groups there are.
+pub enum Merged {
+    Refused(u32),
+    United(United),
 }
 
 // Whether a term forces the pair of another, of a later statement.
@@ -106,18 +118,6 @@ fn gone(work: &[u32], at: usize, i: usize, n: usize, pass: Pass) -> bool
         } else {
             stands_among(work, at, i, n, Sought::Effect(w % 131072 - 1))
         },
-        Pass::Repeated => stands_between(work, 0, at, Sought::Effect(w % 131072)),
-    }
-}
-
-// The term as it stays.
-fn shown(pass: Pass, w: u32) -> u32
-    ensures { λ r. ⌜ r ≡ shownBy pass w ⌝ }
-{
-    match pass {
-        Pass::Overridden => w,
-        Pass::AlsoMandatory => w,
-        Pass::Repeated => w % 131072,
     }
 }
 
@@ -129,7 +129,7 @@ fn sift_one(work: &mut [u32], at: usize, i: usize, n: usize, pass: Pass) -> usiz
     if gone(work, at, i, n, pass) {
         return at;
     }
-    work[at] = shown(pass, work[i]);
+    work[at] = work[i];
     at + 1
 }
 
@@ -197,27 +197,6 @@ fn drop_twins(work: &mut [u32], n: usize) -> usize
     n
 }
 
-// The merged effects of the first so many terms that remain, from 0 on, and how many they are.
-fn unite(work: &mut [u32], n: usize) -> usize
-    requires { ⌜ (n ≤ 64) × (n ≤ length (now work)) ⌝ }
-    ensures { λ r. ⌜ Left (unitedIn (take n (now (work .entry)))) n (now (work .entry)) (now (work .exit)) r ⌝ }
-{
-    let k = drop_twins(work, n);
-    sift(work, k, Pass::Repeated)
-}
-
-// Merging as document 01 has it: the statement that forces a pair again, or the number of merged effects.
-pub fn settle_few(work: &mut [u32], n: usize) -> Outcome
-    requires { ⌜ (n ≤ 64) × (n ≤ length (now work)) ⌝ }
-    ensures { λ r. ⌜ Settles n (now (work .entry)) (now (work .exit)) r ⌝ }
-{
-    let left = remain(work, n);
-    match forced_again(work, left) {
-        Found::Forced(s) => Outcome::Refused(s),
-        Found::Nothing => Outcome::Effects(unite(work, left)),
-    }
-}
-
 // An effect's group.
 fn group_of(e: u32) -> u32
     ensures { λ r. ⌜ r ≡ groupNumber e ⌝ }
@@ -240,32 +219,84 @@ fn group_index(listed: &[u32], k: usize, g: u32) -> usize
     k
 }
 
-// An effect's form put to those of its group, which is put behind the others if it is new; and how many groups there are.
-fn put_effect(listed: &mut [u32], k: usize, e: u32) -> usize
-    requires { ⌜ (k < 64) × (128 ≤ length (now listed)) × FormFits (now listed) k e ⌝ }
-    ensures { λ r. ⌜ EffectPut (now (listed .entry)) (now (listed .exit)) k e r ⌝ }
+// One form more, unless it stands there already. Where eight stand there, which are the numbers from 16^7 on, each form does.
+fn with_form(forms: u32, form: u32) -> u32
+    requires { ⌜ Formed forms × (form < 8) ⌝ }
+    ensures { λ r. ⌜ Joined forms form r ⌝ }
 {
-    let g = group_of(e);
-    let j = group_index(listed, k, g);
-    if j < k {
-        listed[2 * j + 1] = packs::with_place(listed[2 * j + 1], e / 4 % 8);
-        return k;
+    if forms < 268435456 {
+        return packs::with_place(forms, form);
     }
-    listed[2 * k] = g;
-    listed[2 * k + 1] = packs::with_place(0, e / 4 % 8);
-    k + 1
+    forms
 }
 
-// The groups of the first so many effects, two numbers each from 0 on: the group's and its forms, as `packs` has modes. How many there are.
-pub fn group_few(work: &[u32], m: usize, listed: &mut [u32]) -> usize
-    requires { ⌜ (m ≤ 64) × (m ≤ length (now work)) × Plain (take m (now work)) × (128 ≤ length (now listed)) ⌝ }
-    ensures { λ r. ⌜ GroupsListed (map effectOf (take m (now (work .entry)))) (now (listed .exit)) r ⌝ }
+// The effect of a term. If its form stands in its group already, it is a repeat and goes; else it is moved behind those that stay so far, and its
+// form is put to its group, which is put behind the others if it is new. How many effects and groups there are then.
+fn unite_one(work: &mut [u32], listed: &mut [u32], at: usize, k: usize, i: usize) -> United
+    requires { ⌜ (at ≤ i) × (i < 64) × (i < length (now work)) × (k < 64) × (128 ≤ length (now listed)) × AllFormed (now listed) k ⌝ }
+    ensures { λ r. ⌜ OneUnited (now (work .entry)) (now (work .exit)) (now (listed .entry)) (now (listed .exit)) at k i r ⌝ }
 {
+    let e = work[i] % 131072;
+    let g = group_of(e);
+    let form = e / 4 % 8;
+    let j = group_index(listed, k, g);
+    if j < k {
+        let forms = listed[2 * j + 1];
+        let longer = with_form(forms, form);
+        if longer == forms {
+            return United {
+                effects: at,
+                groups: k,
+            };
+        }
+        listed[2 * j + 1] = longer;
+        work[at] = e;
+        return United {
+            effects: at + 1,
+            groups: k,
+        };
+    }
+    listed[2 * k] = g;
+    listed[2 * k + 1] = form + 1;
+    work[at] = e;
+    United {
+        effects: at + 1,
+        groups: k + 1,
+    }
+}
+
+// The effects of the first so many terms without repeats, from 0 on, and their groups, two numbers each from 0 on: the group's and its forms, as
+// `packs` has modes. How many there are.
+fn unite_all(work: &mut [u32], n: usize, listed: &mut [u32]) -> United
+    requires { ⌜ (n ≤ 64) × (n ≤ length (now work)) × (128 ≤ length (now listed)) ⌝ }
+    ensures { λ r. ⌜ AllUnited n (now (work .entry)) (now (work .exit)) (now (listed .exit)) r ⌝ }
+{
+    let mut at = 0;
     let mut k = 0;
     let mut i = 0;
-    while i < m {
-        k = put_effect(listed, k, work[i]);
+    while i < n {
+        let one = unite_one(work, listed, at, k, i);
+        at = one.effects;
+        k = one.groups;
         i += 1;
     }
-    k
+    United {
+        effects: at,
+        groups: k,
+    }
+}
+
+// Merging as document 01 has it: the statement that forces a pair again, or the number of merged effects, and of their groups.
+pub fn settle_few(work: &mut [u32], n: usize, listed: &mut [u32]) -> Merged
+    requires { ⌜ (n ≤ 64) × (n ≤ length (now work)) × (128 ≤ length (now listed)) ⌝ }
+    ensures { λ r. ⌜ Settles n (now (work .entry)) (now (work .exit)) (outcomeOf r) × ListedBy (now (work .exit)) (now (listed .exit)) r ⌝ }
+{
+    let left = remain(work, n);
+    match forced_again(work, left) {
+        Found::Forced(s) => Merged::Refused(s),
+        Found::Nothing => {
+            let once = drop_twins(work, left);
+            Merged::United(unite_all(work, once, listed))
+        }
+    }
 }

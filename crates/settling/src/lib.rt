@@ -18,6 +18,7 @@ use labels::Keywords;
 use labels::Labels;
 use merging::Grouped;
 use merging::Outcome;
+use merging_few::Merged;
 
 // How many bytes the ground text has, and how many effects and notes there are.
 pub struct Lengths {
@@ -156,29 +157,26 @@ pub fn settle_few(
     if FEW_TERMS < tally.terms {
         return Few::Other;
     }
-    match merging_few::settle_few(work, tally.terms) {
-        Outcome::Refused(index) => Few::Answer(refuse(FORCED_TWICE, index as usize)),
-        Outcome::Effects(count) => {
-            let mut listed = [0; 128];
-            let groups = merging_few::group_few(work, count, &mut listed);
-            put_made(
-                block,
-                lists,
-                labels,
-                keys,
-                layout,
-                tally,
-                dropped,
-                count,
-                groups,
-                made,
-                ground,
-                room,
-                notes,
-                work,
-                &listed,
-            )
-        }
+    let mut listed = [0; 128];
+    match merging_few::settle_few(work, tally.terms, &mut listed) {
+        Merged::Refused(index) => Few::Answer(refuse(FORCED_TWICE, index as usize)),
+        Merged::United(united) => put_made(
+            block,
+            lists,
+            labels,
+            keys,
+            layout,
+            tally,
+            dropped,
+            united.effects,
+            united.groups,
+            made,
+            ground,
+            room,
+            notes,
+            work,
+            &listed,
+        ),
     }
 }
 

@@ -17,9 +17,6 @@ returns-3 c = rw (c .before .enum-told2 .given .1, eq-eqb _ _ (c .if2 .taken))
 returns-4 : tie.Need-returns-4
 returns-4 c = rw (c .before .before .enum-told2 .given .1, ne-eqb _ _ (c .before .if2 .left)) (c .stands-among2 .ensures)
 
-returns-5 : tie.Need-returns-5
-returns-5 c = rw (c .before .enum-told3 .given .1) (c .stands-between .ensures)
-
 pub gone-spec : {M : Type 1} → statement M
 gone-spec =
     tie.close
@@ -32,10 +29,7 @@ gone-spec =
     (λ c. search needs)
     (λ c. search needs)
     (λ c κs. search needs)
-    (λ c. search needs)
-    (λ c κs. search needs)
     returns
     returns-2
     returns-3
-    returns-4
-    returns-5)
+    returns-4)

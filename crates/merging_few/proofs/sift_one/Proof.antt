@@ -14,10 +14,10 @@ returns c =
 
 returns-2 : tie.Need-returns-2
 returns-2 c =
-    let e = c .before .before in
+    let e = c .before in
     let g = e .before in
     let a = g .before .before .before .args in
-    one-moved (a .pass) (now (a .work)) (a .at) (a .i) (a .n) (g .gone .ensures) (e .if1 .left) (c .shown .ensures)
+    one-moved (a .pass) (now (a .work)) (a .at) (a .i) (a .n) (g .gone .ensures) (e .if1 .left)
 
 pub sift-one-spec : {M : Type 1} → statement M
 sift-one-spec =
@@ -28,7 +28,6 @@ sift-one-spec =
     returns
     (λ c. search needs)
     (λ c. search needs)
-    (λ c κs. search needs)
     (λ c. search needs)
     (λ c. search needs)
     (λ c. search needs)
