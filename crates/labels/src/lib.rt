@@ -31,7 +31,8 @@ pub enum Found {
     Nothing,
 }
 
-// The bytes of a row of a table. Each row has a label: its family's mark, the number of the label's bytes, these bytes, and zeros.
+// The bytes of a row of a table. Each row has a label: its family's mark, the number of the label's bytes, these bytes, and then digits. A compiler
+// makes such a row in one piece, and one with zeros in several, at every call.
 pub const ROW: usize = 16;
 
 pub type Labels = [u8; 38 * ROW];
@@ -39,63 +40,63 @@ pub type Labels = [u8; 38 * ROW];
 pub type Keywords = [u8; 15 * ROW];
 
 pub const LABELS: Labels = *b"\
-    \x00\x04INST\0\0\0\0\0\0\0\0\0\0\
-    \x00\x02FO\0\0\0\0\0\0\0\0\0\0\0\0\
-    \x00\x02ZO\0\0\0\0\0\0\0\0\0\0\0\0\
-    \x00\x09SEQ-ZO-FO\0\0\0\0\0\
-    \x00\x07WEIBULL\0\0\0\0\0\0\0\
-    \x01\x02FO\0\0\0\0\0\0\0\0\0\0\0\0\
-    \x01\x02ZO\0\0\0\0\0\0\0\0\0\0\0\0\
-    \x01\x02MM\0\0\0\0\0\0\0\0\0\0\0\0\
-    \x01\x09MIX-FO-MM\0\0\0\0\0\
-    \x02\x04DRUG\0\0\0\0\0\0\0\0\0\0\
-    \x02\x03MET\0\0\0\0\0\0\0\0\0\0\0\
-    \x03\x05DEPOT\0\0\0\0\0\0\0\0\0\
-    \x03\x07NODEPOT\0\0\0\0\0\0\0\
-    \x04\x03OFF\0\0\0\0\0\0\0\0\0\0\0\
-    \x04\x02ON\0\0\0\0\0\0\0\0\0\0\0\0\
-    \x05\x03lin\0\0\0\0\0\0\0\0\0\0\0\
-    \x05\x09piece_lin\0\0\0\0\0\
-    \x05\x03exp\0\0\0\0\0\0\0\0\0\0\0\
-    \x05\x03pow\0\0\0\0\0\0\0\0\0\0\0\
-    \x05\x03cat\0\0\0\0\0\0\0\0\0\0\0\
-    \x05\x04cat2\0\0\0\0\0\0\0\0\0\0\
-    \x05\x06custom\0\0\0\0\0\0\0\0\
-    \x06\x06LINEAR\0\0\0\0\0\0\0\0\
-    \x06\x04EMAX\0\0\0\0\0\0\0\0\0\0\
-    \x06\x07SIGMOID\0\0\0\0\0\0\0\
-    \x06\x04STEP\0\0\0\0\0\0\0\0\0\0\
-    \x06\x06LOGLIN\0\0\0\0\0\0\0\0\
-    \x07\x0aPRODUCTION\0\0\0\0\
-    \x07\x0bDEGRADATION\0\0\0\
-    \x08\x05BASIC\0\0\0\0\0\0\0\0\0\
-    \x08\x03PSC\0\0\0\0\0\0\0\0\0\0\0\
-    \x09\x03EXP\0\0\0\0\0\0\0\0\0\0\0\
-    \x09\x03ADD\0\0\0\0\0\0\0\0\0\0\0\
-    \x09\x04PROP\0\0\0\0\0\0\0\0\0\0\
-    \x09\x03LOG\0\0\0\0\0\0\0\0\0\0\0\
-    \x09\x06RE_LOG\0\0\0\0\0\0\0\0\
-    \x0a\x03IIV\0\0\0\0\0\0\0\0\0\0\0\
-    \x0a\x03IOV\0\0\0\0\0\0\0\0\0\0\0\
+    \x00\x04INST0123456789\
+    \x00\x02FO0123456789ab\
+    \x00\x02ZO0123456789ab\
+    \x00\x09SEQ-ZO-FO01234\
+    \x00\x07WEIBULL0123456\
+    \x01\x02FO0123456789ab\
+    \x01\x02ZO0123456789ab\
+    \x01\x02MM0123456789ab\
+    \x01\x09MIX-FO-MM01234\
+    \x02\x04DRUG0123456789\
+    \x02\x03MET0123456789a\
+    \x03\x05DEPOT012345678\
+    \x03\x07NODEPOT0123456\
+    \x04\x03OFF0123456789a\
+    \x04\x02ON0123456789ab\
+    \x05\x03lin0123456789a\
+    \x05\x09piece_lin01234\
+    \x05\x03exp0123456789a\
+    \x05\x03pow0123456789a\
+    \x05\x03cat0123456789a\
+    \x05\x04cat20123456789\
+    \x05\x06custom01234567\
+    \x06\x06LINEAR01234567\
+    \x06\x04EMAX0123456789\
+    \x06\x07SIGMOID0123456\
+    \x06\x04STEP0123456789\
+    \x06\x06LOGLIN01234567\
+    \x07\x0aPRODUCTION0123\
+    \x07\x0bDEGRADATION012\
+    \x08\x05BASIC012345678\
+    \x08\x03PSC0123456789a\
+    \x09\x03EXP0123456789a\
+    \x09\x03ADD0123456789a\
+    \x09\x04PROP0123456789\
+    \x09\x03LOG0123456789a\
+    \x09\x06RE_LOG01234567\
+    \x0a\x03IIV0123456789a\
+    \x0a\x03IOV0123456789a\
 ";
 
 // The keywords have a mark of their own, the one after the families'.
 pub const KEYWORDS: Keywords = *b"\
-    \x0b\x0aABSORPTION\0\0\0\0\
-    \x0b\x0bELIMINATION\0\0\0\
-    \x0b\x0bPERIPHERALS\0\0\0\
-    \x0b\x08TRANSITS\0\0\0\0\0\0\
-    \x0b\x07LAGTIME\0\0\0\0\0\0\0\
-    \x0b\x09COVARIATE\0\0\0\0\0\
-    \x0b\x09ALLOMETRY\0\0\0\0\0\
-    \x0b\x0cDIRECTEFFECT\0\0\
-    \x0b\x0aEFFECTCOMP\0\0\0\0\
+    \x0b\x0aABSORPTION0123\
+    \x0b\x0bELIMINATION012\
+    \x0b\x0bPERIPHERALS012\
+    \x0b\x08TRANSITS012345\
+    \x0b\x07LAGTIME0123456\
+    \x0b\x09COVARIATE01234\
+    \x0b\x09ALLOMETRY01234\
+    \x0b\x0cDIRECTEFFECT01\
+    \x0b\x0aEFFECTCOMP0123\
     \x0b\x0eINDIRECTEFFECT\
-    \x0b\x0aMETABOLITE\0\0\0\0\
-    \x0b\x03IIV\0\0\0\0\0\0\0\0\0\0\0\
-    \x0b\x03IOV\0\0\0\0\0\0\0\0\0\0\0\
-    \x0b\x0aCOVARIANCE\0\0\0\0\
-    \x0b\x03LET\0\0\0\0\0\0\0\0\0\0\0\
+    \x0b\x0aMETABOLITE0123\
+    \x0b\x03IIV0123456789a\
+    \x0b\x03IOV0123456789a\
+    \x0b\x0aCOVARIANCE0123\
+    \x0b\x03LET0123456789a\
 ";
 
 // A letter's lower case, as ASCII has it.
