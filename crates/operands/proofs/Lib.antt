@@ -2,4 +2,4 @@ pub mod Holding
 pub mod Standing
 pub mod Sources
 pub mod Bringing
-pub mod Values
+pub mod Naming

@@ -2,31 +2,31 @@
 // or `*`, is held by 15 to the list that written names are held to there." The indexes stand in an array that the caller lends.
 ghost use mathlib.Core.Path.{_≡_};
 ghost use mathlib.Core.Bool.{true, cond};
-ghost use mathlib.Core.List.{map};
-ghost use Prim.Native.Nat.{_+_, _≤_, _<_};
+ghost use mathlib.Core.Option.{Option};
+ghost use Prim.Native.Nat.{ℕ, _+_, _≤_, _<_};
 ghost use lib.ListN.{length, take};
 ghost use Rattle.tokens.specs.Class.{classTable};
 ghost use Rattle.reading.specs.Answer.{accepted};
 ghost use Rattle.resolving.specs.Operands.{held};
-ghost use Rattle.resolving.specs.Handed.{isHanded};
-ghost use Rattle.forms.specs.Items.{itemsIn};
-ghost use Rattle.forms.specs.Fits.{Listed};
+ghost use Rattle.resolving.specs.Handed.{isHanded, handedContext};
 ghost use Rattle.parts.specs.Meaning.{OperandFits};
-ghost use Rattle.context.specs.Lists.{namesIn, Sound, Stands, covariatesOf, layoutOf};
+ghost use Rattle.context.specs.Lists.{namesIn, Sound, Stands, covariatesOf, layoutOf, foundAs};
 ghost use Rattle.symbols.specs.Lets.{LetsFit};
-ghost use Rattle.symbols.specs.Sources.{LookedFits};
-ghost use Rattle.symbols.specs.Brings.{listOf, brings, broughtBy};
+ghost use Rattle.symbols.specs.Sources.{sourceList, SourceFits, LookedFits};
 ghost use Rattle.operands.specs.Picked.{standsIn, withIndex, PickedAs};
+ghost use Rattle.operands.specs.Named.{namedAs, NamedFits, inBlock, extentOf, EntryAt, NameHere, foundIn, placedAs};
 ghost use Rattle.operands.specs.Entries.{entriesAs, targetOf, StandsFor, operandNames, parametersIn, covariatesIn};
 use context::Found;
 use context::Layout;
 use context::Names;
 use forms::Items;
+use forms::Name;
 use forms::Operand;
 use symbols::Brought;
 use symbols::Looked;
 use symbols::Source;
 use tokens::Classes;
+use tokens::Cursor;
 
 // The faults of an operand by their numbers.
 pub const NO_FAULT: u8 = 0;
@@ -34,6 +34,26 @@ pub const NO_FAULT: u8 = 0;
 pub const UNKNOWN_SYMBOL: u8 = 14;
 
 pub const UNKNOWN_NAME: u8 = 15;
+
+// A name before it is an index: a pair into the text or into the context's block, by its mark; or nothing, where an entry brings none.
+enum Named {
+    Text(Name),
+    Block(Name),
+    Nothing,
+}
+
+// What an entry of a source brings, and the cursor behind it where it stands in the text.
+struct NextName {
+    named: Named,
+    next: Cursor,
+}
+
+// Where a name stands in a list.
+enum Placed {
+    At(usize),
+    Missing,
+    NoName,
+}
 
 // How many indexes an operand has in the array that was lent, or why there are none.
 pub struct Entries {
@@ -69,50 +89,95 @@ fn push_index(indexes: &mut [u8; 64], count: usize, index: u8) -> usize
     count + 1
 }
 
-// The values of a LET, or names as they are written, each held to a list as it is read, or that one is not there. So no array of pairs is made
-// of them.
-fn hold_values(
+// Where the entries of a source start, if they stand in the text, and how many there are.
+fn extent_of(layout: Layout, source: Source) -> Items
+    ensures { λ r. ⌜ r ≡ extentOf layout source ⌝ }
+{
+    let Source::Values(items) = source else {
+        let names = symbols::list_of(layout, source);
+        return Items {
+            first: Cursor { at: 0 },
+            count: names.count,
+        };
+    };
+    items
+}
+
+// A name of the block, if an entry of the context brings one.
+fn of_block(brought: Brought) -> Named
+    ensures { λ r. ⌜ r ≡ inBlock brought ⌝ }
+{
+    match brought {
+        Brought::Pair(name) => Named::Block(name),
+        Brought::Nothing => Named::Nothing,
+    }
+}
+
+// What an entry of a source brings. One that stands in the text is read where the one before it ended.
+fn next_name(
     text: &[u8],
     classes: &Classes,
     block: &[u8],
     lists: &[u32],
-    items: Items,
-    target: Names,
-    indexes: &mut [u8; 64],
-) -> Entries
-    requires { ⌜ (now classes ≡ classTable) × Listed (now text) items × Sound (now block) (now lists) target × (length (now indexes) ≡ 64) ⌝ }
-    ensures { λ r. ⌜ PickedAs (target .count) r (now (indexes .exit))
-        × (entriesAs r (now (indexes .exit)) ≡ held (namesIn (now (block .entry)) (now (lists .entry)) target)
-        (accepted (map (λ i. i .name .spelling) (itemsIn (now (text .entry)) items)))) ⌝ }
+    layout: Layout,
+    source: Source,
+    index: usize,
+    cur: Cursor,
+) -> NextName
+    requires { ⌜ (now classes ≡ classTable) × Stands (now block) (now lists) layout × SourceFits (now text) source
+        × (index < extentOf layout source .count) × EntryAt (now text) source index (cur .at) ⌝ }
+    ensures { λ r. ⌜ NameHere (now (text .entry)) (now (block .entry)) (now (lists .entry)) layout source index r ⌝ }
 {
-    let mut n = 0;
-    let mut i = 0;
-    let mut cur = items.first;
-    while i < items.count {
-        let entry = checks::entry_at(text, classes, cur);
-        let name = entry.name;
-        match context::index_of(block, lists, target, symbols::spelling(text, name)) {
-            Found::Place(place) => {
-                n = push_index(indexes, n, place as u8);
-                cur = checks::past_comma(text, classes, entry.next);
-                i += 1;
-            }
-            Found::Nothing => {
-                return Entries {
-                    fault: UNKNOWN_NAME,
-                    count: n,
-                };
-            }
-        }
-    }
-    Entries {
-        fault: NO_FAULT,
-        count: n,
+    let Source::Values(items) = source else {
+        return NextName {
+            named: of_block(symbols::bring(block, lists, layout, source, index)),
+            next: cur,
+        };
+    };
+    let entry = checks::entry_at(text, classes, cur);
+    let name = entry.name;
+    NextName {
+        named: Named::Text(name),
+        next: checks::past_comma(text, classes, entry.next),
     }
 }
 
-// What a source has in the block, each name held to a list as it is brought, or that one is not there.
-fn hold_block(
+fn placed_by(found: Found) -> Placed
+    ensures { λ r. ⌜ ((o : Option ℕ) → found ≡ foundAs o → r ≡ foundIn o) ⌝ }
+{
+    match found {
+        Found::Place(place) => Placed::At(place),
+        Found::Nothing => Placed::Missing,
+    }
+}
+
+// Where a name stands in a list: the place of its first entry, or that it has none; or that there is no name. A name is spelled in the text or in the
+// block, by its mark.
+fn place_of(text: &[u8], block: &[u8], lists: &[u32], target: Names, named: Named) -> Placed
+    requires { ⌜ Sound (now block) (now lists) target × NamedFits (now text) (now block) named ⌝ }
+    ensures { λ r. ⌜ r ≡ placedAs (namesIn (now (block .entry)) (now (lists .entry)) target) (namedAs (now (text .entry)) (now (block .entry)) named) ⌝ }
+{
+    match named {
+        Named::Text(name) => placed_by(context::index_of(
+            block,
+            lists,
+            target,
+            symbols::spelling(text, name),
+        )),
+        Named::Block(name) => placed_by(context::index_of(
+            block,
+            lists,
+            target,
+            symbols::spelling(block, name),
+        )),
+        Named::Nothing => Placed::NoName,
+    }
+}
+
+// The names of a source, each held to a list as it is brought, or that one is not there. So no array of pairs is made of them.
+fn hold(
+    text: &[u8],
+    classes: &Classes,
     block: &[u8],
     lists: &[u32],
     layout: Layout,
@@ -120,32 +185,34 @@ fn hold_block(
     target: Names,
     indexes: &mut [u8; 64],
 ) -> Entries
-    requires { ⌜ Stands (now block) (now lists) layout × Sound (now block) (now lists) target × (length (now indexes) ≡ 64) ⌝ }
+    requires { ⌜ (now classes ≡ classTable) × Stands (now block) (now lists) layout × SourceFits (now text) source
+        × Sound (now block) (now lists) target × (length (now indexes) ≡ 64) ⌝ }
     ensures { λ r. ⌜ PickedAs (target .count) r (now (indexes .exit))
         × (entriesAs r (now (indexes .exit)) ≡ held (namesIn (now (block .entry)) (now (lists .entry)) target)
-        (accepted (broughtBy (brings (now (block .entry)) (now (lists .entry)) layout source) (listOf layout source .count)))) ⌝ }
+        (accepted (sourceList (handedContext (now (block .entry)) (now (lists .entry))) (now (text .entry)) source))) ⌝ }
 {
-    let names = symbols::list_of(layout, source);
-    let count = names.count;
+    let extent = extent_of(layout, source);
+    let count = extent.count;
     let mut n = 0;
     let mut i = 0;
+    let mut cur = extent.first;
     while i < count {
-        match symbols::bring(block, lists, layout, source, i) {
-            Brought::Pair(name) => {
-                match context::index_of(block, lists, target, symbols::spelling(block, name)) {
-                    Found::Place(place) => {
-                        n = push_index(indexes, n, place as u8);
-                        i += 1;
-                    }
-                    Found::Nothing => {
-                        return Entries {
-                            fault: UNKNOWN_NAME,
-                            count: n,
-                        };
-                    }
-                }
+        let here = next_name(text, classes, block, lists, layout, source, i, cur);
+        let named = here.named;
+        match place_of(text, block, lists, target, named) {
+            Placed::At(place) => {
+                n = push_index(indexes, n, place as u8);
+                cur = here.next;
+                i += 1;
             }
-            Brought::Nothing => {
+            Placed::Missing => {
+                return Entries {
+                    fault: UNKNOWN_NAME,
+                    count: n,
+                };
+            }
+            Placed::NoName => {
+                cur = here.next;
                 i += 1;
             }
         }
@@ -224,10 +291,7 @@ fn operand_entries<'a>(
             count: 0,
         };
     };
-    let Source::Values(items) = source else {
-        return hold_block(block, lists, layout, source, target, indexes);
-    };
-    hold_values(text, classes, block, lists, items, target, indexes)
+    hold(text, classes, block, lists, layout, source, target, indexes)
 }
 
 // The parameters of an operand, as indexes of the context's.

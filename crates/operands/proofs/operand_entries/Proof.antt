@@ -81,48 +81,18 @@ returns c =
     let d = c .before .before in
     (none-picked _ _ _ (start d .pre .4) refl, found-held d looked.Unknown (c .enum-told .given .1))
 
-hold-block-requires : tie.Need-hold-block-requires
-hold-block-requires c κs =
-    let d = c .before .before .before .before .before in
-    (layout-stands d, sound d, start d .pre .4)
+hold-requires : tie.Need-hold-requires
+hold-requires c κs =
+    let x = c .before .before in
+    let d = x .before .before in
+    (start d .pre .0, layout-stands d, found-fits d _ (x .source .given .1), sound d, start d .pre .4)
 
 returns-2 : tie.Need-returns-2
 returns-2 c =
-    let m = c .before .before in
-    let x = m .before .before in
-    let d = x .before .before in
-    let found = x .source .given .0 .0 in (
-      subst (λ (n : Names). PickedAs (n .count) (c .hold-block .result) (c .hold-block .last .1 .1 .1 .1 .1 .0)) (target-there d)
-          (c .hold-block .ensures .0),
-      c .hold-block .ensures .1
-          ∙ ap (λ (ws : List (List ℕ)). held (namesIn (b d) (l d) (target d)) (accepted ws))
-          (source-brought (b d) (l d) (layout d) (layout-stands d) (s d) found (m .match2 .keys2))
-          ∙ found-held d (looked.Names found) (x .source .given .1),
-    )
-
-hold-values-requires : tie.Need-hold-values-requires
-hold-values-requires c κs =
-    let v = c .before .before in
-    let x = v .before .before .before in
+    let x = c .before .before .before in
     let d = x .before .before in (
-      start d .pre .0,
-      subst (SourceFits (s d)) (v .source2 .given .1) (found-fits d _ (x .source .given .1)),
-      sound d,
-      start d .pre .4,
-    )
-
-returns-3 : tie.Need-returns-3
-returns-3 c =
-    let v = c .before .before .before in
-    let x = v .before .before .before in
-    let d = x .before .before in
-    let found = x .source .given .0 .0 in (
-      subst (λ (n : Names). PickedAs (n .count) (c .hold-values .result) (c .hold-values .last .1 .1 .1 .1 .1 .1 .0)) (target-there d)
-          (c .hold-values .ensures .0),
-      c .hold-values .ensures .1
-          ∙ ap (λ (y : Source). held (namesIn (b d) (l d) (target d)) (accepted (sourceList (handedContext (b d) (l d)) (s d) y)))
-          (sym (v .source2 .given .1))
-          ∙ found-held d (looked.Names found) (x .source .given .1),
+      subst (λ (n : Names). PickedAs (n .count) (c .hold .result) (c .hold .last .1 .1 .1 .1 .1 .1 .1 .0)) (target-there d) (c .hold .ensures .0),
+      c .hold .ensures .1 ∙ found-held d (looked.Names (x .source .given .0 .0)) (x .source .given .1),
     )
 
 pub operand-entries-spec : {M : Type 1} → statement M
@@ -135,8 +105,5 @@ operand-entries-spec =
     (λ c. search needs)
     (λ c. search needs)
     returns
-    (λ c. search needs)
-    hold-block-requires
-    returns-2
-    hold-values-requires
-    returns-3)
+    hold-requires
+    returns-2)
