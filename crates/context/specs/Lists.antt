@@ -7,7 +7,8 @@ use mathlib.Core.Path.{_≡_}
 use lib.Dec.{eqb, leb}
 use lib.ListN.{length, getD}
 use Rattle.text.specs.Bytes.{every}
-use Rattle.resolving.specs.Lists.{all}
+use Rattle.labels.specs.Word.{sameWord}
+use Rattle.resolving.specs.Lists.{all, sameBytes}
 use Rattle.resolving.specs.Context.{Binding, Declared}
 use Rattle.resolving.specs.Given.{Pair, isEntry, inOrder, spelled, bindingIn, declaredIn}
 use Rattle.resolving.specs.Handed.{pairsAt, bindingsAt, declaredAt, iivStart, templateStart, declaredStart, columnsStart, isHanded}
@@ -15,6 +16,8 @@ use Rattle.context.specs.declared.Names.{Names}
 use Rattle.context.specs.declared.Layout.{Layout}
 use Rattle.context.specs.declared.Checked.{Checked}
 use Rattle.context.specs.declared.Checked.the-variants.{Context, Wrong}
+use Rattle.context.specs.declared.Comparing.{Comparing}
+use Rattle.context.specs.declared.Comparing.the-variants.{Bytes, Words}
 use Rattle.context.specs.declared.Found.{Found}
 use Rattle.context.specs.declared.Found.the-variants.{Place, Nothing}
 
@@ -75,6 +78,11 @@ blockIn b l n = map (declaredIn b) (declaredAt l (n .start) (n .count))
 pub record Sound (b l : List ℕ) (n : Names) : Type 0 where
   pub named : all (isEntry b) (pairsIn l n) ≡ true
   pub few : n .count ≤ 64
+
+-- How two names are compared.
+abbrev pub sameBy : Comparing → List ℕ → List ℕ → Bool
+sameBy Bytes = sameBytes
+sameBy Words = sameWord
 
 -- The place of a name in a list, as it is answered.
 abbrev pub foundAs : Option ℕ → Found

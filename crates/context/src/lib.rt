@@ -12,7 +12,7 @@ ghost use Rattle.resolving.specs.Given.{isEntry};
 ghost use Rattle.resolving.specs.Handed.{pairOf, pastAll, isHanded};
 ghost use Rattle.forms.specs.Items.{nameIn};
 ghost use Rattle.forms.specs.Fits.{InText};
-ghost use Rattle.context.specs.Lists.{layoutOf, checkedAs, foundAs, Sound, InRun, namesIn, kindsIn, bothOf, variablesOf, covariatesOf};
+ghost use Rattle.context.specs.Lists.{layoutOf, checkedAs, sameBy, foundAs, Sound, InRun, namesIn, kindsIn, bothOf, variablesOf, covariatesOf};
 ghost use Rattle.context.specs.Lists.{markFits, headsFit, orderOf, kindsFit, listsFit};
 use forms::Name;
 use tokens::Classes;
@@ -45,6 +45,12 @@ pub enum Checked {
 pub enum Found {
     Place(usize),
     Nothing,
+}
+
+// How two names are compared: byte for byte, or as words, ignoring case.
+enum Comparing {
+    Bytes,
+    Words,
 }
 
 // Whether all the bytes together are one word or one number.
@@ -209,15 +215,25 @@ pub fn name_at<'a>(block: &'a [u8], lists: &[u32], names: Names, index: usize) -
     &block[start..end]
 }
 
-// The place of the first entry that has these bytes.
-pub fn index_of(block: &[u8], lists: &[u32], names: Names, name: &[u8]) -> Found
+// Whether two names are the same, by how they are compared.
+fn same_by(how: Comparing, left: &[u8], right: &[u8]) -> bool
+    ensures { λ r. ⌜ r ≡ sameBy how (now (left .entry)) (now (right .entry)) ⌝ }
+{
+    match how {
+        Comparing::Bytes => same_bytes(left, right),
+        Comparing::Words => labels::same_word(left, right),
+    }
+}
+
+// The place of the first entry that is the same.
+fn first_same(block: &[u8], lists: &[u32], names: Names, how: Comparing, name: &[u8]) -> Found
     requires { ⌜ Sound (now block) (now lists) names ⌝ }
-    ensures { λ r. ⌜ r ≡ foundAs (placeIn (sameBytes (now (name .entry))) (namesIn (now (block .entry)) (now (lists .entry)) names)) ⌝ }
+    ensures { λ r. ⌜ r ≡ foundAs (placeIn (sameBy how (now (name .entry))) (namesIn (now (block .entry)) (now (lists .entry)) names)) ⌝ }
 {
     let mut i = 0;
     while i < names.count {
         let entry = name_at(block, lists, names, i);
-        if same_bytes(name, entry) {
+        if same_by(how, name, entry) {
             return Found::Place(i);
         }
         i += 1;
@@ -225,20 +241,20 @@ pub fn index_of(block: &[u8], lists: &[u32], names: Names, name: &[u8]) -> Found
     Found::Nothing
 }
 
+// The place of the first entry that has these bytes.
+pub fn index_of(block: &[u8], lists: &[u32], names: Names, name: &[u8]) -> Found
+    requires { ⌜ Sound (now block) (now lists) names ⌝ }
+    ensures { λ r. ⌜ r ≡ foundAs (placeIn (sameBytes (now (name .entry))) (namesIn (now (block .entry)) (now (lists .entry)) names)) ⌝ }
+{
+    first_same(block, lists, names, Comparing::Bytes, name)
+}
+
 // The place of the first entry that is the same word, ignoring case: a template's variable among the parameters.
 pub fn match_of(block: &[u8], lists: &[u32], names: Names, word: &[u8]) -> Found
     requires { ⌜ Sound (now block) (now lists) names ⌝ }
     ensures { λ r. ⌜ r ≡ foundAs (placeIn (sameWord (now (word .entry))) (namesIn (now (block .entry)) (now (lists .entry)) names)) ⌝ }
 {
-    let mut i = 0;
-    while i < names.count {
-        let entry = name_at(block, lists, names, i);
-        if labels::same_word(word, entry) {
-            return Found::Place(i);
-        }
-        i += 1;
-    }
-    Found::Nothing
+    first_same(block, lists, names, Comparing::Words, word)
 }
 
 // The kind of a declared covariate.

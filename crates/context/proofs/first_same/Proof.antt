@@ -1,4 +1,4 @@
--- `context::match_of` meets its contract: in each turn, none of the entries so far passes, and one fewer is left. Assumes nothing.
+-- `context::first_same` meets its contract: in each turn, none of the entries so far passes, and one fewer is left. Assumes nothing.
 use mathlib.Core.Path.{_≡_, sym, ap, _∙_}
 use mathlib.Core.Bool.{Bool}
 use mathlib.Core.List.{List, []}
@@ -6,22 +6,21 @@ use Prim.Native.Nat.{ℕ, _-_, _≤_, _<_}
 use native.Mathlib.Omega.{arith}
 use denote.Ref.{now}
 use lib.ListN.{length, getD}
-use Rattle.labels.specs.Word.{sameWord}
-use Rattle.context.specs.Lists.{namesIn}
+use Rattle.context.specs.Lists.{namesIn, sameBy}
 use Rattle.context.proofs.Pairs.{names-length}
 use Rattle.context.proofs.Places.{Passed, passed-none, passed-more, passed-found, passed-all}
-use Rattle.context.proofs.match_of.Statement.{statement}
-use Rattle.context.proofs.match_of.Tie as tie
+use Rattle.context.proofs.first_same.Statement.{statement}
+use Rattle.context.proofs.first_same.Tie as tie
 
 abbrev Inv-loop : tie.InvT-loop
-Inv-loop block lists names word i₀ i = (i ≤ names .count) × Passed (sameWord word) (namesIn block lists names) i
+Inv-loop block lists names how name i₀ i = (i ≤ names .count) × Passed (sameBy how name) (namesIn block lists names) i
 
 abbrev μ-loop : tie.MeasureT-loop
-μ-loop block lists names word i₀ i = names .count - i
+μ-loop block lists names how name i₀ i = names .count - i
 
 -- what is looked for, and where
 abbrev wanted : tie.Start Inv-loop μ-loop → List ℕ → Bool
-wanted s = sameWord (now (s .args .word))
+wanted s = sameBy (s .args .how) (now (s .args .name))
 
 abbrev listed : tie.Start Inv-loop μ-loop → List (List ℕ)
 listed s = namesIn (now (s .args .block)) (now (s .args .lists)) (s .args .names)
@@ -40,10 +39,10 @@ below c =
 
 -- what a turn's comparison says of that entry
 compared :
-    (c : tie.After-same-word Inv-loop μ-loop)
+    (c : tie.After-same-by Inv-loop μ-loop)
     → let l = turn (c .before .before) in
-    c .same-word .result ≡ wanted (start l) (getD (listed (start l)) (l .loop .i) [])
-compared c = c .same-word .ensures ∙ ap (wanted (start (turn (c .before .before)))) (c .before .name-at .ensures)
+    c .same-by .result ≡ wanted (start l) (getD (listed (start l)) (l .loop .i) [])
+compared c = c .same-by .ensures ∙ ap (wanted (start (turn (c .before .before)))) (c .before .name-at .ensures)
 
 loop-holds : tie.Need-loop-holds Inv-loop μ-loop
 loop-holds c = let s = c .before .before .before in (omega arith, passed-none (wanted s) (listed s))
@@ -70,8 +69,8 @@ returns-2 c =
     let e = names-length (now (a .block)) (now (a .lists)) (a .names) in
     sym (passed-all (wanted (start l)) (listed (start l)) (l .loop .i) (omega (arith, e, c .if1 .left)) (l .loop .inv .1))
 
-pub match-of-spec : {M : Type 1} → statement M
-match-of-spec =
+pub first-same-spec : {M : Type 1} → statement M
+first-same-spec =
     tie.close
     (tie.spec
     Inv-loop
