@@ -8,10 +8,11 @@ use mathlib.Core.List.{List, [], _∷_, _++_, map, map-append, append-assoc, app
 use lib.ListN.{length, length-append}
 use Rattle.reading.specs.Answer.{Answer, accepted, refused, _>>=_}
 use Rattle.reading.specs.Statement.{Statement}
+use Rattle.reading_laws.proofs.Accepting.{value-of}
 use Rattle.writing.specs.Written.{Written}
 use Rattle.writing.proofs.Writing.{nothing-written, written-on}
 use Rattle.render.specs.Text.{pieceOf}
-use Rattle.render.proofs.Pieces.{restOf}
+use Rattle.render.specs.Text.{restOf}
 use Rattle.resolving.specs.Lists.{gather}
 use Rattle.resolving.specs.Brought.{Brought, defining, dropped, stays, brings, atIndex, eachFrom}
 use Rattle.resolving.specs.Ground.{staying}
@@ -19,14 +20,6 @@ use Rattle.resolving_laws.specs.Flat.{Term, term, termsFrom}
 use Rattle.merging.specs.Packing.{termOf}
 use Rattle.brought.specs.declared.Tally.{Tally}
 use Rattle.brought.specs.Tallies.{noteOf, notesFrom, Adds, Added}
-
--- an answer accepts one value
-pub accepted-both : {B : Type 0} {x y : B} → accepted x ≡ accepted y → x ≡ y
-accepted-both {B} {x} e = ap (λ (a : Answer B). orElse a) e
-  where
-    orElse : Answer B → B
-    orElse (accepted z) = z
-    orElse (refused k p) = x
 
 -- One more at the end of a list.
 
@@ -157,6 +150,6 @@ first-of {A} {B} f i x xs bs e = by-first (f x) refl (eachFrom f (suc i) xs) ref
     by-first : (a : Answer B) → f x ≡ a → (r : Answer (List B)) → eachFrom f (suc i) xs ≡ r
         → (atIndex i a >>= (λ y. r >>= (λ ys. accepted (y ∷ ys)))) ≡ accepted bs
         → First f i x xs bs
-    by-first (accepted b) p (accepted cs) q h = record { one = b; others = cs; brought = p; each = q; are = sym (accepted-both h) }
+    by-first (accepted b) p (accepted cs) q h = record { one = b; others = cs; brought = p; each = q; are = sym (value-of h) }
     by-first (accepted b) p (refused k o) q h = let z : _≡_ {A = ℕ} 0 1 = cc in absurd (omega arith)
     by-first (refused k o) p r q h = let z : _≡_ {A = ℕ} 0 1 = cc in absurd (omega arith)

@@ -8,18 +8,18 @@ use mathlib.Core.List.{List, [], _∷_, map, append-nil}
 use lib.ListN.{length}
 use Rattle.reading.specs.Answer.{Answer, accepted}
 use Rattle.reading.specs.Statement.{Statement, feature}
+use Rattle.reading_laws.proofs.Accepting.{value-of}
 use Rattle.writing.specs.Written.{Written}
 use Rattle.writing.proofs.Writing.{nothing-written}
 use Rattle.render.specs.Text.{pieceOf}
 use Rattle.resolving.specs.Brought.{Brought, defining, dropped, stays, brings}
 use Rattle.resolving_laws.specs.Flat.{term}
 use Rattle.resolving.specs.Ground.{staying}
-use Rattle.render.proofs.Pieces.{restOf}
+use Rattle.render.specs.Text.{restOf}
 use Rattle.bringing.specs.Stays.{Stood}
 use Rattle.bringing.specs.Terms.{Termed}
 use Rattle.brought.specs.declared.Tally.{Tally}
 use Rattle.brought.specs.Tallies.{Noted, Brings}
-use Rattle.brought.proofs.Adding.{accepted-both}
 
 -- nothing is written where nothing is changed
 unchanged : {ts ts' : List ℕ} {m n : ℕ} → ts' ≡ ts → n ≡ m → Written ts m [] ts' n
@@ -113,7 +113,7 @@ module _ {a : Answer Brought} (n : ℕ) {at : ℕ} {before after : List ℕ} {r 
       → Written before at (restOf n (staying x)) after r
       → (b : Brought) → a ≡ accepted b → Written before at (restOf n (staying b)) after r
   prints-known e w b h =
-      subst (λ (y : Brought). Written before at (restOf n (staying y)) after r) (accepted-both (sym e ∙ h)) w
+      subst (λ (y : Brought). Written before at (restOf n (staying y)) after r) (value-of (sym e ∙ h)) w
 
   pub prints-stood : Stood a n before at after r → (b : Brought) → a ≡ accepted b → Written before at (restOf n (staying b)) after r
   prints-stood w =

@@ -19,7 +19,7 @@ use Rattle.forms.specs.declared.Modes.the-variants as form
 use Rattle.forms.specs.Forms.{modesIn}
 use Rattle.writing.specs.Written.{Room}
 use Rattle.render.specs.Text.{jointOf}
-use Rattle.render.proofs.Pieces.{restOf}
+use Rattle.render.specs.Text.{restOf}
 use Rattle.resolving.specs.Context.{Context, covariates}
 use Rattle.resolving.specs.Effects.{Effect}
 use Rattle.resolving.specs.Brought.{whole}

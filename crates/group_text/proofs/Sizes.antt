@@ -17,7 +17,7 @@ use Rattle.part_text.proofs.Bytes.{spell-append}
 use Rattle.statement_text.specs.Bytes.{headOf}
 use Rattle.statement_text.proofs.Bytes.{call-bytes, name-alone}
 use Rattle.render.specs.Text.{jointOf, pieceOf}
-use Rattle.render.proofs.Pieces.{restOf}
+use Rattle.render.specs.Text.{restOf}
 use Rattle.resolving.specs.Context.{Context, covariates}
 use Rattle.resolving.specs.Brought.{plainName, listed}
 use Rattle.resolving.specs.Ground.{Group, operatorAs, isOptional, groundCovariate}

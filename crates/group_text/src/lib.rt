@@ -5,7 +5,7 @@ ghost use Prim.Native.Nat.{_≤_};
 ghost use lib.ListN.{take};
 ghost use Rattle.labels.specs.Table.{labelTable, keywordTable};
 ghost use Rattle.writing.specs.Written.{Written};
-ghost use Rattle.render.proofs.Pieces.{restOf};
+ghost use Rattle.render.specs.Text.{restOf};
 ghost use Rattle.resolving.specs.Ground.{groundEffects};
 ghost use Rattle.resolving.specs.Handed.{handedContext};
 ghost use Rattle.context.specs.Lists.{Stands};

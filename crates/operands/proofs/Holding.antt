@@ -13,6 +13,7 @@ use lib.Seq.{length-take-le}
 use Rattle.reading.specs.Answer.{Answer, accepted, refused, _>>=_}
 use Rattle.reading_laws.specs.WellFormed.{given}
 use Rattle.reading_laws.proofs.Giving.{value-given}
+use Rattle.reading_laws.proofs.Accepting.{value-of}
 use Rattle.resolving.specs.Lists.{firsts, placeIn, sameBytes}
 use Rattle.resolving.specs.Faults.{unknownName}
 use Rattle.resolving.specs.Operands.{entered, entryOf, entriesOf, held}
@@ -24,9 +25,6 @@ use Rattle.resolving_laws.proofs.Entries.{held-gives}
 use Rattle.resolving_laws.proofs.Fewness.{place-below}
 use Rattle.operands.specs.Picked.{withIndex, PickedAs}
 use Rattle.operands.specs.declared.Entries.{Entries}
-
-value-of : {A : Type 0} {x y : A} → accepted x ≡ accepted y → x ≡ y
-value-of e = cc
 
 -- names whose indexes, each once, are these
 record Entered (list vs : List (List ℕ)) (is : List ℕ) : Type 0 where

@@ -20,7 +20,7 @@ use Rattle.reading_laws.proofs.Turning.{opening}
 pub not-refused : {A : Type 0} {n p : ℕ} {a : A} → refused n p ≡ accepted a → ⊥
 not-refused e = let z : _≡_ {A = ℕ} 0 1 = cc in omega arith
 
-value-of : {A : Type 0} {a b : A} → accepted a ≡ accepted b → a ≡ b
+pub value-of : {A : Type 0} {a b : A} → accepted a ≡ accepted b → a ≡ b
 value-of e = cc
 
 -- a statement's first token never ends it

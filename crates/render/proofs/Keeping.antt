@@ -35,8 +35,8 @@ use Rattle.render.specs.declared.Printed.{Printed}
 use Rattle.render.specs.declared.Printed.the-variants as printed
 use Rattle.render.specs.declared.Kept.{Kept}
 use Rattle.render.specs.declared.Kept.the-variants.{Refused, More}
-use Rattle.render.specs.Text.{pieceOf, Answers, KeptAs}
-use Rattle.render.proofs.Pieces.{restOf, canonical-pieces}
+use Rattle.render.specs.Text.{pieceOf, Answers, KeptAs, restOf}
+use Rattle.render.proofs.Pieces.{canonical-pieces}
 use Rattle.render.proofs.Loop.{canonical-short}
 use Rattle.render.proofs.Answering.{refused-answers, room-answers}
 

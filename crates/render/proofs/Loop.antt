@@ -27,8 +27,8 @@ use Rattle.parts.specs.Meaning.{PartsFit}
 use Rattle.parts.proofs.Fitting.{statement-fits}
 use Rattle.writing.specs.Written.{Room, Written}
 use Rattle.writing.proofs.Going.{Going, going, told, further, no-more, room-first}
-use Rattle.render.specs.Text.{Accepted, pieceOf, Prints}
-use Rattle.render.proofs.Pieces.{restOf, canonical-pieces}
+use Rattle.render.specs.Text.{Accepted, pieceOf, Prints, restOf}
+use Rattle.render.proofs.Pieces.{canonical-pieces}
 
 -- an accepted text is not too long, and so its canonical text has an index behind it
 pub canonical-short : (limit : ℕ) (s : List ℕ) (ss : List Statement) → readText limit s ≡ accepted ss → Room 0 (canonical ss)

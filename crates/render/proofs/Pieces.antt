@@ -7,12 +7,7 @@ use Rattle.tokens.specs.Spelling.{spellAll}
 use Rattle.reading.specs.Statement.{Statement}
 use Rattle.canonical.specs.Canonical.{sign, statementShapes, textShapes, canonical}
 use Rattle.part_text.proofs.Bytes.{spell-append}
-use Rattle.render.specs.Text.{jointOf, pieceOf}
-
--- what is left to be printed after so many statements
-abbrev pub restOf : ℕ → List Statement → List ℕ
-restOf n [] = []
-restOf n (x ∷ xs) = pieceOf n x ++ restOf (suc n) xs
+use Rattle.render.specs.Text.{jointOf, restOf}
 
 abbrev bytesOf : Statement → List ℕ
 bytesOf x = spellAll (statementShapes x)

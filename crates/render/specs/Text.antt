@@ -30,6 +30,11 @@ jointOf (suc n) = code ";" ∷ []
 abbrev pub pieceOf : ℕ → Statement → List ℕ
 pieceOf n x = jointOf n ++ spellAll (statementShapes x)
 
+-- statements one after the other, after so many others
+abbrev pub restOf : ℕ → List Statement → List ℕ
+restOf n [] = []
+restOf n (x ∷ xs) = pieceOf n x ++ restOf (suc n) xs
+
 -- the canonical text of an accepted text was written from the buffer's start on
 abbrev pub Prints : ℕ → List ℕ → List ℕ → List ℕ → ℕ → Type 0
 Prints limit s before after r = (ss : List Statement) → readText limit s ≡ accepted ss → Written before 0 (canonical ss) after r

@@ -4,8 +4,9 @@ use Prim.Native.Nat.{ℕ, _≤_}
 use mathlib.Core.Path.{_≡_, _∙_, sym, subst}
 use mathlib.Core.List.{List}
 use lib.ListN.{length}
+use Rattle.reading_laws.proofs.Accepting.{value-of}
 use Rattle.writing.specs.Written.{Written}
-use Rattle.render.proofs.Pieces.{restOf}
+use Rattle.render.specs.Text.{restOf}
 use Rattle.resolving.specs.Lists.{gather}
 use Rattle.resolving.specs.Brought.{Brought, bring}
 use Rattle.resolving.specs.Ground.{staying}
@@ -15,12 +16,12 @@ use Rattle.operands.specs.Entries.{meaningIn}
 use Rattle.brought.specs.declared.Tally.{Tally}
 use Rattle.taken.specs.Taken.{TextBrings}
 use Rattle.taken.proofs.Refusing.{brought-answer}
-use Rattle.settling.specs.Short.{FewThere}
-use Rattle.settling.proofs.Settling.{accepted-same, all-there}
+use Rattle.settling.specs.Attempts.{StaysWritten}
+use Rattle.settling.proofs.Settling.{all-there}
 
 module _ {limit : ℕ} {s b l ts ds out ts' ds' out' : List ℕ} {u : Tally} (h : TextBrings limit s b l ts ds out ts' ds' out' u) where
   -- where all was made in buffers of these lengths
-  unfoldable pub text-there : length ds ≡ 256 → 2048 ≤ length ts → FewThere (handedContext b l) u ds' ts' out'
+  unfoldable pub text-there : length ds ≡ 256 → 2048 ≤ length ts → StaysWritten (handedContext b l) u ds' ts' out'
   text-there wide room =
       let c = handedContext b l in
       let look = meaningIn s (h .run) (h .n) c in
@@ -32,7 +33,7 @@ module _ {limit : ℕ} {s b l ts ds out ts' ds' out' : List ℕ} {u : Tally} (h 
         before = out;
         text =
             subst (λ (bs : List Brought). Written out 0 (restOf 0 (gather staying bs)) out' (u .ground))
-            (accepted-same (sym (h .brought .brought) ∙ there .brought)) (h .text);
+            (value-of (sym (h .brought .brought) ∙ there .brought)) (h .text);
       }
 
   -- the text resolves to what they come to

@@ -10,10 +10,10 @@ ghost use Rattle.resolving.specs.Call.{resolveCall, lengthsOf, outputOf, workAf
 ghost use Rattle.resolving.specs.Resolve.{groundText};
 ghost use Rattle.settling.specs.Answers.{Answers, Packed, resolvedAs, effectsIn, rooms, lent};
 ghost use Rattle.reading_laws.specs.Admitted.{Admitted};
-ghost use Rattle.settling.specs.Short.{FewAnswers};
+ghost use Rattle.settling.specs.Attempts.{AttemptAs};
 use labels::Keywords;
 use labels::Labels;
-use settling::Few;
+use settling::Attempt;
 use settling::Resolved;
 use statements::Admission;
 use taken::Taken;
@@ -57,10 +57,10 @@ fn resolve_short(
     notes: &mut [[u8; 2]],
     work: &mut [u32],
     limit: u32,
-) -> Few
+) -> Attempt
     requires { ⌜ (now classes ≡ classTable) × (now labels ≡ labelTable) × (now keys ≡ keywordTable)
         × Admitted limit (now text) × (2048 ≤ length (now work)) ⌝ }
-    ensures { λ r. ⌜ FewAnswers (resolveHanded limit (now (block .entry)) (now (lists .entry)) (now (text .entry)))
+    ensures { λ r. ⌜ AttemptAs (resolveHanded limit (now (block .entry)) (now (lists .entry)) (now (text .entry)))
         (now (ground .entry)) room (now (notes .entry))
         (now (ground .exit)) (now (notes .exit)) (now (work .exit)) r ⌝ }
 {
@@ -82,10 +82,10 @@ fn resolve_short(
     ) {
         Taken::Tally(tally) => tally,
         Taken::Refused(r) => {
-            return Few::Answer(Resolved::Refused(r));
+            return Attempt::Answer(Resolved::Refused(r));
         }
         Taken::Full => {
-            return Few::Other;
+            return Attempt::NoRoom;
         }
     };
     settling::settle_few(
@@ -164,11 +164,11 @@ fn resolve_long(
         notes,
         &mut bench,
     ) {
-        Few::Answer(resolved) => {
+        Attempt::Answer(resolved) => {
             outputs::put_packed(work, &bench, effect_count(resolved));
             resolved
         }
-        Few::Other => settling::refuse(settling::TOO_LARGE, 0),
+        Attempt::NoRoom => settling::refuse(settling::TOO_LARGE, 0),
     }
 }
 
@@ -225,8 +225,8 @@ fn resolve_in(
         work,
         limit,
     ) {
-        Few::Answer(resolved) => resolved,
-        Few::Other => resolve_long(
+        Attempt::Answer(resolved) => resolved,
+        Attempt::NoRoom => resolve_long(
             text,
             &classes,
             &labels,

@@ -11,7 +11,8 @@ use lib.Dec.{eqb}
 use lib.ListN.{length, length-append, length-map}
 use Rattle.reading.specs.Answer.{Answer, accepted, refused}
 use Rattle.reading.specs.Statement.{Statement}
-use Rattle.render.proofs.Pieces.{restOf, canonical-pieces}
+use Rattle.render.specs.Text.{restOf}
+use Rattle.render.proofs.Pieces.{canonical-pieces}
 use Rattle.resolving.specs.Lists.{any, gather}
 use Rattle.resolving.specs.Faults.{forcedTwice, tooLarge}
 use Rattle.resolving.specs.Context.{Context, covariates}

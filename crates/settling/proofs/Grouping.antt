@@ -21,12 +21,12 @@ use Rattle.merging.proofs.Answers.{merged-plain, groups-stand}
 use Rattle.group_text.specs.Known.{Entered, GroupsKnown}
 use Rattle.group_text.proofs.Groups.{buffer-known, few-known}
 use Rattle.brought.specs.declared.Tally.{Tally}
-use Rattle.settling.specs.declared.Few.{Few}
-use Rattle.settling.specs.Short.{FewThere, FewGrounding, FewAnswers}
+use Rattle.settling.specs.declared.Attempt.{Attempt}
+use Rattle.settling.specs.Attempts.{StaysWritten, EffectsGrouped, AttemptAs}
 use Rattle.settling.proofs.Grounds.{Unforced, merged-entered}
 use Rattle.settling.proofs.Settling.{unforced}
 
-module _ {c : Context} {t : Tally} {ds work made : List ℕ} (x : FewThere c t ds work made) (low : t .terms ≤ 2048) {work' : List ℕ} {r : Outcome}
+module _ {c : Context} {t : Tally} {ds work made : List ℕ} (x : StaysWritten c t ds work made) (low : t .terms ≤ 2048) {work' : List ℕ} {r : Outcome}
     (s : Settles (t .terms) work work' r) (m : ℕ) (h : r ≡ outcomes.Effects m) where
   abbrev right : Unforced (x .there .what) (map effectOf (take m work'))
   right = unforced (x .there) low s m h
@@ -46,7 +46,7 @@ module _ {c : Context} {t : Tally} {ds work made : List ℕ} (x : FewThere c t d
       → t .terms ≤ 32
       → 2048 ≤ length work
       → 128 ≤ length listed
-      → FewGrounding c t ds work' listed m k made
+      → EffectsGrouped c t ds work' listed m k made
   few-grounding g few room wide = record {
     what = x .there .what;
     tallied = x .there .tallied;
@@ -63,7 +63,7 @@ module _ {c : Context} {t : Tally} {ds work made : List ℕ} (x : FewThere c t d
       → Groups m work' work'' g
       → g ≡ grouped.Groups k
       → 6656 ≤ length work
-      → FewGrounding c t ds work'' (take (length work'' - 6144) (drop 6144 work'')) m k made
+      → EffectsGrouped c t ds work'' (take (length work'' - 6144) (drop 6144 work'')) m k made
   many-grounding {work''} {k = k} q o wide =
       let e : map effectOf (take m work'') ≡ map effectOf (take m work') = ap (λ (l : List ℕ). map effectOf l) (q .effects) in
       let room : 6656 ≤ length work'' = omega (arith, wide, s .kept .size, q .kept .size) in
@@ -83,8 +83,8 @@ module _ {c : Context} {t : Tally} {ds work made : List ℕ} (x : FewThere c t d
 
 -- an answer for another that is equal
 pub same-few :
-    (a b : Answer Resolved) (g : List ℕ) (e : ℕ) (n : List (List ℕ)) (g' : List ℕ) (n' : List (List ℕ)) (w' : List ℕ) (r : Few)
+    (a b : Answer Resolved) (g : List ℕ) (e : ℕ) (n : List (List ℕ)) (g' : List ℕ) (n' : List (List ℕ)) (w' : List ℕ) (r : Attempt)
     → b ≡ a
-    → FewAnswers a g e n g' n' w' r
-    → FewAnswers b g e n g' n' w' r
-same-few a b g e n g' n' w' r h x = subst (λ (y : Answer Resolved). FewAnswers y g e n g' n' w' r) (sym h) x
+    → AttemptAs a g e n g' n' w' r
+    → AttemptAs b g e n g' n' w' r
+same-few a b g e n g' n' w' r h x = subst (λ (y : Answer Resolved). AttemptAs y g e n g' n' w' r) (sym h) x

@@ -2,4 +2,4 @@ pub mod Answering
 pub mod Grounds
 pub mod Measured
 pub mod Settling
-pub mod Short
+pub mod Grouping

@@ -10,7 +10,7 @@ use lib.ListN.{length, take, length-append, length-map}
 use lib.Seq.{length-take-le}
 use Rattle.writing.specs.Written.{Written}
 use Rattle.writing.proofs.Writing.{written-on}
-use Rattle.render.proofs.Pieces.{restOf}
+use Rattle.render.specs.Text.{restOf}
 use Rattle.resolving.specs.Lists.{any, gather}
 use Rattle.resolving.specs.Context.{Context}
 use Rattle.resolving.specs.Effects.{Effect}
@@ -21,11 +21,11 @@ use Rattle.resolving.specs.Call.{noteNumbers}
 use Rattle.merging.specs.Packing.{effectOf}
 use Rattle.outputs.specs.Entries.{droppedAt, additiveNote}
 use Rattle.brought.specs.declared.Tally.{Tally}
-use Rattle.settling.specs.Short.{FewGrounding}
+use Rattle.settling.specs.Attempts.{EffectsGrouped}
 use Rattle.settling.proofs.Grounds.{statements-many, text-pieces, notes-are}
 
 module _ {c : Context} {t : Tally} {dropped work listed : List ℕ} {count many : ℕ} {made : List ℕ}
-    (g : FewGrounding c t dropped work listed count many made) where
+    (g : EffectsGrouped c t dropped work listed count many made) where
   pub statements-are : length (outcome c (g .what) .statements) ≡ t .stays + many
   statements-are =
       omega (

@@ -8,6 +8,7 @@ use lib.ListN.{length, take, drop, length-map}
 use lib.Seq.{take-append-seam}
 use Rattle.reading.specs.Answer.{Answer, accepted, refused}
 use Rattle.reading.specs.Statement.{Statement}
+use Rattle.reading_laws.proofs.Accepting.{value-of}
 use Rattle.writing.specs.Written.{Written}
 use Rattle.writing.proofs.Writing.{patch-front, length-patch}
 use Rattle.resolving.specs.Lists.{gather}
@@ -30,13 +31,6 @@ use Rattle.brought.specs.Tallies.{notesFrom, AllBrings}
 use Rattle.brought.proofs.Adding.{first-of}
 use Rattle.settling.specs.Stages.{grounded, BroughtThere}
 use Rattle.settling.proofs.Grounds.{over-merged, forced-merged, peace-merged, forced-told, Unforced, merged-told, terms-many, many-grounded, statements-many}
-
-pub accepted-same : {B : Type 0} {x y : List B} → accepted x ≡ accepted y → x ≡ y
-accepted-same {B} {x} e = ap (λ (a : Answer (List B)). orElse a) e
-  where
-    orElse : Answer (List B) → List B
-    orElse (accepted z) = z
-    orElse (refused k p) = x
 
 -- Merging and grouping.
 
@@ -75,7 +69,7 @@ module _ {a : Answer (List Brought)} {t : Tally} {ds work : List ℕ} (b : Broug
 -- All statements were taken.
 
 each-many : {A B : Type 0} (f : A → Answer B) (i : ℕ) (xs : List A) (ys : List B) → eachFrom f i xs ≡ accepted ys → length ys ≡ length xs
-each-many f i [] ys e = ap length (accepted-same (sym e))
+each-many f i [] ys e = ap length (value-of (sym e))
 each-many f i (x ∷ xs) ys e =
     let y = first-of f i x xs ys e in
     ap length (y .are) ∙ ap suc (each-many f (suc i) xs (y .others) (y .each))
@@ -115,7 +109,6 @@ module _ (f : Statement → Answer Brought) (ss : List Statement) {ts ds ts' ds'
         tallied =
             record {
               stays = d .stays;
-              ground = d .ground;
               noted = front-stands (d .dropped) (omega (arith, few, wide, count, notes-most 0 (b .what)));
               held =
                   omega (

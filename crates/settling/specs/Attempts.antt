@@ -6,7 +6,7 @@ use lib.ListN.{length, take}
 use Rattle.reading.specs.Statement.{Statement}
 use Rattle.reading.specs.Answer.{Answer}
 use Rattle.writing.specs.Written.{Written}
-use Rattle.render.proofs.Pieces.{restOf}
+use Rattle.render.specs.Text.{restOf}
 use Rattle.resolving.specs.Lists.{gather}
 use Rattle.resolving.specs.Context.{Context}
 use Rattle.resolving.specs.Symbols.{Meaning}
@@ -17,13 +17,13 @@ use Rattle.resolving.specs.Resolve as definition
 use Rattle.merging.specs.Packing.{effectOf}
 use Rattle.group_text.specs.Known.{GroupsKnown}
 use Rattle.brought.specs.declared.Tally.{Tally}
-use Rattle.settling.specs.declared.Few.{Few}
-use Rattle.settling.specs.declared.Few.the-variants as few
+use Rattle.settling.specs.declared.Attempt.{Attempt}
+use Rattle.settling.specs.declared.Attempt.the-variants as attempt
 use Rattle.settling.specs.Answers.{Answers}
 use Rattle.settling.specs.Stages.{Tallied, BroughtThere}
 
 -- `made` has the ground statements of what stays, as far as there is room for them
-pub record FewThere (c : Context) (t : Tally) (dropped work made : List ℕ) : Type 0 where
+pub record StaysWritten (c : Context) (t : Tally) (dropped work made : List ℕ) : Type 0 where
   pub statements : List Statement
   pub look : Meaning
   pub there : BroughtThere (eachFrom (bring c look) 0 statements) t dropped work
@@ -31,7 +31,7 @@ pub record FewThere (c : Context) (t : Tally) (dropped work made : List ℕ) : T
   pub text : Written before 0 (restOf 0 (gather staying (there .what))) made (t .ground)
 
 -- the merged effects stand from 0 on, and their groups are listed
-pub record FewGrounding (c : Context) (t : Tally) (dropped work listed : List ℕ) (count groups : ℕ) (made : List ℕ) : Type 0 where
+pub record EffectsGrouped (c : Context) (t : Tally) (dropped work listed : List ℕ) (count groups : ℕ) (made : List ℕ) : Type 0 where
   pub what : List Brought
   pub tallied : Tallied what t dropped
   pub effects : map effectOf (take count work) ≡ merged what
@@ -41,11 +41,11 @@ pub record FewGrounding (c : Context) (t : Tally) (dropped work listed : List �
   pub text : Written before 0 (restOf 0 (gather staying what)) made (t .ground)
 
 -- an answer, or none, and then nothing was put out
-unfoldable pub FewAnswers : Answer definition.Resolved → List ℕ → ℕ → List (List ℕ) → List ℕ → List (List ℕ) → List ℕ → Few → Type 0
-FewAnswers a ground room notes ground' notes' work' (few.Answer r) = Answers a ground room notes ground' notes' work' r
-FewAnswers a ground room notes ground' notes' work' few.Other = (ground' ≡ ground) × (notes' ≡ notes)
+unfoldable pub AttemptAs : Answer definition.Resolved → List ℕ → ℕ → List (List ℕ) → List ℕ → List (List ℕ) → List ℕ → Attempt → Type 0
+AttemptAs a ground room notes ground' notes' work' (attempt.Answer r) = Answers a ground room notes ground' notes' work' r
+AttemptAs a ground room notes ground' notes' work' attempt.NoRoom = (ground' ≡ ground) × (notes' ≡ notes)
 
 -- there is none only where what is made has less room than a ground text may need
-unfoldable pub Roomy : List ℕ → Few → Type 0
-Roomy made (few.Answer r) = Unit {0}
-Roomy made few.Other = length made < 16384
+unfoldable pub Roomy : List ℕ → Attempt → Type 0
+Roomy made (attempt.Answer r) = Unit {0}
+Roomy made attempt.NoRoom = length made < 16384

@@ -1,3 +1,3 @@
 pub mod Answers
 pub mod Stages
-pub mod Short
+pub mod Attempts

@@ -10,7 +10,6 @@ use Rattle.resolving.specs.Brought.{Brought}
 use Rattle.resolving.specs.Ground.{staying}
 use Rattle.resolving.specs.Resolve.{Resolved, outcome, groundText, upTo}
 use Rattle.resolving_laws.specs.Flat.{termsFrom}
-use Rattle.render.proofs.Pieces.{restOf}
 use Rattle.merging.specs.Packing.{termOf}
 use Rattle.brought.specs.declared.Tally.{Tally}
 use Rattle.brought.specs.Tallies.{notesFrom}
@@ -20,10 +19,9 @@ unfoldable pub grounded : Context → List Brought → Answer Resolved
 grounded c bs =
     upTo 256 (length (outcome c bs .statements)) (upTo 16384 (length (groundText (outcome c bs))) (accepted (outcome c bs)))
 
--- how many statements stay, how many bytes they have, and which are dropped
+-- how many statements stay, and which are dropped
 pub record Tallied (bs : List Brought) (t : Tally) (dropped : List ℕ) : Type 0 where
   pub stays : t .stays ≡ length (gather staying bs)
-  pub ground : t .ground ≡ length (restOf 0 (gather staying bs))
   pub noted : take (t .dropped) dropped ≡ notesFrom 0 bs
   pub held : t .dropped ≤ length dropped
   pub marked : t .dropped ≤ 256

@@ -10,7 +10,7 @@ ghost use Rattle.context.specs.Lists.{Stands};
 ghost use Rattle.outputs.specs.Entries.{additiveNote};
 ghost use Rattle.settling.specs.Answers.{resolvedAs};
 ghost use Rattle.settling.specs.Stages.{grounded};
-ghost use Rattle.settling.specs.Short.{FewThere, FewGrounding, FewAnswers, Roomy};
+ghost use Rattle.settling.specs.Attempts.{StaysWritten, EffectsGrouped, AttemptAs, Roomy};
 use brought::Tally;
 use context::Layout;
 use forms::Refusal;
@@ -56,9 +56,9 @@ fn note_count(dropped: usize, additive: bool) -> usize
 }
 
 // The answer of a text, or that it needs more room here than there is: the way with full sizes then answers.
-pub enum Few {
+pub enum Attempt {
     Answer(Resolved),
-    Other,
+    NoRoom,
 }
 
 // The answer of grouped effects, where what stays stands in `made` already: the groups are written behind it, and all is put out if there is room.
@@ -78,16 +78,16 @@ fn put_made(
     notes: &mut [[u8; 2]],
     work: &[u32],
     listed: &[u32],
-) -> Few
+) -> Attempt
     requires { ⌜ (now labels ≡ labelTable) × (now keys ≡ keywordTable) × Stands (now block) (now lists) layout
-        × FewGrounding (handedContext (now block) (now lists)) tally (now dropped) (now work) (now listed) count groups (now made) ⌝ }
-    ensures { λ r. ⌜ ((g : FewGrounding (handedContext (now (block .entry)) (now (lists .entry))) tally (now (dropped .entry)) (now (work .entry))
+        × EffectsGrouped (handedContext (now block) (now lists)) tally (now dropped) (now work) (now listed) count groups (now made) ⌝ }
+    ensures { λ r. ⌜ ((g : EffectsGrouped (handedContext (now (block .entry)) (now (lists .entry))) tally (now (dropped .entry)) (now (work .entry))
         (now (listed .entry)) count groups (now (made .entry)))
-        → FewAnswers (grounded (handedContext (now (block .entry)) (now (lists .entry))) (g .what)) (now (ground .entry)) room (now (notes .entry))
+        → AttemptAs (grounded (handedContext (now (block .entry)) (now (lists .entry))) (g .what)) (now (ground .entry)) room (now (notes .entry))
         (now (ground .exit)) (now (notes .exit)) (now (work .entry)) r) × Roomy (now (made .entry)) r ⌝ }
 {
     if 256 < tally.stays + groups {
-        return Few::Answer(refuse(TOO_LARGE, 0));
+        return Attempt::Answer(refuse(TOO_LARGE, 0));
     }
     let end = group_text::put_groups(
         block,
@@ -104,25 +104,25 @@ fn put_made(
         tally.ground,
     );
     if 16384 < end {
-        return Few::Answer(refuse(TOO_LARGE, 0));
+        return Attempt::Answer(refuse(TOO_LARGE, 0));
     }
     if made.len() < end {
-        return Few::Other;
+        return Attempt::NoRoom;
     }
     let additive = merging::additive(work, count);
     let remarks = note_count(tally.dropped, additive);
     if ground.len() < end {
-        return Few::Answer(refuse(forms::TOO_SHORT, 0));
+        return Attempt::Answer(refuse(forms::TOO_SHORT, 0));
     }
     if room < count {
-        return Few::Answer(refuse(forms::TOO_SHORT, 0));
+        return Attempt::Answer(refuse(forms::TOO_SHORT, 0));
     }
     if notes.len() < remarks {
-        return Few::Answer(refuse(forms::TOO_SHORT, 0));
+        return Attempt::Answer(refuse(forms::TOO_SHORT, 0));
     }
     outputs::put_text(ground, made, end);
     outputs::put_notes(notes, dropped, tally.dropped, additive);
-    Few::Answer(Resolved::Lengths(Lengths {
+    Attempt::Answer(Resolved::Lengths(Lengths {
         ground: end,
         effects: count,
         notes: remarks,
@@ -146,20 +146,20 @@ pub fn settle_few(
     room: usize,
     notes: &mut [[u8; 2]],
     work: &mut [u32],
-) -> Few
+) -> Attempt
     requires { ⌜ (now labels ≡ labelTable) × (now keys ≡ keywordTable) × Stands (now block) (now lists) layout
-        × FewThere (handedContext (now block) (now lists)) tally (now dropped) (now work) (now made) × (2048 ≤ length (now work)) ⌝ }
-    ensures { λ r. ⌜ ((b : FewThere (handedContext (now (block .entry)) (now (lists .entry))) tally (now (dropped .entry)) (now (work .entry))
+        × StaysWritten (handedContext (now block) (now lists)) tally (now dropped) (now work) (now made) × (2048 ≤ length (now work)) ⌝ }
+    ensures { λ r. ⌜ ((b : StaysWritten (handedContext (now (block .entry)) (now (lists .entry))) tally (now (dropped .entry)) (now (work .entry))
         (now (made .entry)))
-        → FewAnswers (definition.mergeAndGround (handedContext (now (block .entry)) (now (lists .entry))) (b .there .what)) (now (ground .entry)) room
+        → AttemptAs (definition.mergeAndGround (handedContext (now (block .entry)) (now (lists .entry))) (b .there .what)) (now (ground .entry)) room
         (now (notes .entry)) (now (ground .exit)) (now (notes .exit)) (now (work .exit)) r) ⌝ }
 {
     if FEW_TERMS < tally.terms {
-        return Few::Other;
+        return Attempt::NoRoom;
     }
     let mut listed = [0; 128];
     match merging_few::settle_few(work, tally.terms, &mut listed) {
-        Merged::Refused(index) => Few::Answer(refuse(FORCED_TWICE, index as usize)),
+        Merged::Refused(index) => Attempt::Answer(refuse(FORCED_TWICE, index as usize)),
         Merged::United(united) => put_made(
             block,
             lists,
@@ -195,26 +195,26 @@ pub fn settle_many(
     room: usize,
     notes: &mut [[u8; 2]],
     bench: &mut [u32],
-) -> Few
+) -> Attempt
     requires { ⌜ (now labels ≡ labelTable) × (now keys ≡ keywordTable) × Stands (now block) (now lists) layout
-        × FewThere (handedContext (now block) (now lists)) tally (now dropped) (now bench) (now made) × (6656 ≤ length (now bench)) ⌝ }
-    ensures { λ r. ⌜ ((b : FewThere (handedContext (now (block .entry)) (now (lists .entry))) tally (now (dropped .entry)) (now (bench .entry))
+        × StaysWritten (handedContext (now block) (now lists)) tally (now dropped) (now bench) (now made) × (6656 ≤ length (now bench)) ⌝ }
+    ensures { λ r. ⌜ ((b : StaysWritten (handedContext (now (block .entry)) (now (lists .entry))) tally (now (dropped .entry)) (now (bench .entry))
         (now (made .entry)))
-        → FewAnswers (definition.mergeAndGround (handedContext (now (block .entry)) (now (lists .entry))) (b .there .what)) (now (ground .entry)) room
+        → AttemptAs (definition.mergeAndGround (handedContext (now (block .entry)) (now (lists .entry))) (b .there .what)) (now (ground .entry)) room
         (now (notes .entry)) (now (ground .exit)) (now (notes .exit)) (now (bench .exit)) r) × Roomy (now (made .entry)) r ⌝ }
 {
     if merging::TERMS < tally.terms {
-        return Few::Answer(refuse(TOO_LARGE, 0));
+        return Attempt::Answer(refuse(TOO_LARGE, 0));
     }
     let count = match merging::settle(bench, tally.terms) {
         Outcome::Refused(index) => {
-            return Few::Answer(refuse(FORCED_TWICE, index as usize));
+            return Attempt::Answer(refuse(FORCED_TWICE, index as usize));
         }
         Outcome::Effects(count) => count,
     };
     let groups = match merging::group(bench, count) {
         Grouped::Many => {
-            return Few::Answer(refuse(TOO_LARGE, 0));
+            return Attempt::Answer(refuse(TOO_LARGE, 0));
         }
         Grouped::Groups(groups) => groups,
     };

@@ -10,7 +10,7 @@ use Rattle.reading.specs.Answer.{Answer, accepted, refused}
 use Rattle.reading.specs.Statement.{Statement}
 use Rattle.writing.specs.Written.{Written}
 use Rattle.writing.proofs.Writing.{nothing-written, written-on}
-use Rattle.render.proofs.Pieces.{restOf}
+use Rattle.render.specs.Text.{restOf}
 use Rattle.resolving.specs.Lists.{gather}
 use Rattle.resolving.specs.Brought.{Brought, defining, dropped, stays, brings, eachFrom}
 use Rattle.resolving.specs.Ground.{staying}

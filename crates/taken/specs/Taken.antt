@@ -9,7 +9,7 @@ use Rattle.reading.specs.Statement.{Statement}
 use Rattle.reading.specs.Answer.{accepted, refused}
 use Rattle.reading.specs.Read.{readText}
 use Rattle.writing.specs.Written.{Written}
-use Rattle.render.proofs.Pieces.{restOf}
+use Rattle.render.specs.Text.{restOf}
 use Rattle.resolving.specs.Lists.{gather}
 use Rattle.resolving.specs.Brought.{bring, eachFrom}
 use Rattle.resolving.specs.Ground.{staying}

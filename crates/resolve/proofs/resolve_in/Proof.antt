@@ -12,7 +12,7 @@ use Rattle.labels.specs.Table.{labelTable, keywordTable}
 use Rattle.reading_laws.specs.Admitted.{Admitted}
 use Rattle.statements.specs.Answers.{AdmissionAs}
 use Rattle.settling.specs.Answers.{resolvedAs}
-use Rattle.settling.specs.Short.{FewAnswers}
+use Rattle.settling.specs.Attempts.{AttemptAs}
 use Rattle.settling.proofs.Answering.{refused-answers, answers-back}
 use Rattle.taken.proofs.Refusing.{text-refused}
 use Rattle.resolve.proofs.resolve_in.Statement.{statement}
@@ -50,8 +50,8 @@ resolve-short-requires c κs =
     (refl, refl, refl, fine e, e .before .before .before .before .before .before .before .before .pre)
 
 returns-3 : tie.Need-returns-3
-unfolding FewAnswers
-returns-3 c = subst (FewAnswers _ _ _ _ _ _ _) (c .before .resolved .given .1) (c .before .before .before .before .before .before .before .before .resolve-short .ensures)
+unfolding AttemptAs
+returns-3 c = subst (AttemptAs _ _ _ _ _ _ _) (c .before .resolved .given .1) (c .before .before .before .before .before .before .before .before .resolve-short .ensures)
 
 -- any other: the outputs are as they were
 abbrev admitted-at : tie.After-enum-told2 → tie.After-enum-told
@@ -61,8 +61,8 @@ unchanged : (o : tie.After-enum-told2)
     → let s = admitted-at o .before .before .before .before .before .before .before .before in
     let d = o .before .before .before .before .before .before .before in
     (d .resolve-short .last .1 .1 .1 .1 .1 .1 .0 ≡ now (s .args .ground)) × (d .resolve-short .last .1 .1 .1 .1 .1 .1 .1 .1 .0 ≡ now (s .args .notes))
-unfolding FewAnswers
-unchanged o = subst (FewAnswers _ _ _ _ _ _ _) (o .enum-told2 .given .1) (o .before .before .before .before .before .before .before .resolve-short .ensures)
+unfolding AttemptAs
+unchanged o = subst (AttemptAs _ _ _ _ _ _ _) (o .enum-told2 .given .1) (o .before .before .before .before .before .before .before .resolve-short .ensures)
 
 -- and the working buffer is as long, which is enough for the effects
 work-long : (o : tie.After-enum-told2) → 2048 ≤ length (o .before .before .before .before .before .before .before .resolve-short .last .1 .1 .1 .1 .1 .1 .1 .1 .1 .0)

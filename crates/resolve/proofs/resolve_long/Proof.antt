@@ -12,7 +12,7 @@ use Rattle.resolving.specs.Handed.{handedContext, resolveHanded}
 use Rattle.context.proofs.Meaning.{handed-heads-fit}
 use Rattle.taken.specs.Taken.{TakenAs}
 use Rattle.settling.specs.Answers.{resolvedAs, Answers}
-use Rattle.settling.specs.Short.{FewThere, FewAnswers, Roomy}
+use Rattle.settling.specs.Attempts.{StaysWritten, AttemptAs, Roomy}
 use Rattle.settling.proofs.Answering.{refused-answers, same-answers}
 use Rattle.resolve.proofs.Bench.{told-few, told-stand, answers-put}
 use Rattle.resolve.proofs.There.{text-there, text-resolved}
@@ -54,7 +54,7 @@ unfoldable there :
     (t : tie.After-tally)
     → let k = taken-at t in
     let a = start k .args in
-    FewThere (handedContext (now (a .block)) (now (a .lists))) (t .tally .given .0 .0)
+    StaysWritten (handedContext (now (a .block)) (now (a .lists))) (t .tally .given .0 .0)
     (k .take-text .last .1 .1 .1 .1 .1 .1 .1 .1 .1 .0) (k .take-text .last .1 .1 .1 .1 .1 .1 .1 .1 .0)
     (k .take-text .last .1 .1 .1 .1 .1 .1 .1 .1 .1 .1 .0)
 unfolding TakenAs
@@ -118,10 +118,10 @@ answered :
     Answers (mergeAndGround (handedContext (now (a .block)) (now (a .lists))) (there t .there .what)) (now (a .ground)) (a .room) (now (a .notes))
     (r .settle-many .last .1 .1 .1 .1 .1 .1 .1 .1 .0) (r .settle-many .last .1 .1 .1 .1 .1 .1 .1 .1 .1 .1 .0)
     (r .settle-many .last .1 .1 .1 .1 .1 .1 .1 .1 .1 .1 .1 .0) (x .resolved .given .0 .0)
-unfolding FewAnswers
+unfolding AttemptAs
 answered x =
     let r = x .before .before .before .before .before .before .before in
-    subst (FewAnswers _ _ _ _ _ _ _) (x .resolved .given .1) (r .settle-many .ensures .0 (there (tallied-at r)))
+    subst (AttemptAs _ _ _ _ _ _ _) (x .resolved .given .1) (r .settle-many .ensures .0 (there (tallied-at r)))
 
 -- the effects stand on the bench, and there is room for as many in the working buffer
 put-packed-requires : tie.Need-put-packed-requires

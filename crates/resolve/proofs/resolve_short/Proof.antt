@@ -7,9 +7,9 @@ use Rattle.writing.proofs.Writing.{same-room}
 use Rattle.context.proofs.Meaning.{handed-heads-fit}
 use Rattle.taken.specs.Taken.{TakenAs}
 use Rattle.settling.specs.Answers.{resolvedAs}
-use Rattle.settling.specs.Short.{FewAnswers}
+use Rattle.settling.specs.Attempts.{AttemptAs}
 use Rattle.settling.proofs.Answering.{refused-answers}
-use Rattle.settling.proofs.Short.{same-few}
+use Rattle.settling.proofs.Grouping.{same-few}
 use Rattle.resolve.proofs.There.{text-there, text-resolved}
 use Rattle.resolve.proofs.resolve_short.Statement.{statement}
 use Rattle.resolve.proofs.resolve_short.Tie as tie
@@ -24,14 +24,14 @@ take-text-requires : tie.Need-take-text-requires
 take-text-requires c κs = let p = c .before .before .before .before .before .before .before .before .before .pre in (p .0, p .1, p .2, p .3)
 
 returns : tie.Need-returns
-unfolding FewAnswers TakenAs resolvedAs
+unfolding AttemptAs TakenAs resolvedAs
 returns c =
     let x = c .before .r .given in
     let k = c .before .before .before .before .before .before .before .before in
     refused-answers _ _ _ (subst (TakenAs _ _ _ _ _ _ _ _ _ _ _) (x .1) (k .take-text .ensures)) refl
 
 returns-2 : tie.Need-returns-2
-unfolding FewAnswers
+unfolding AttemptAs
 returns-2 c = (refl, refl)
 
 read-layout-requires : tie.Need-read-layout-requires

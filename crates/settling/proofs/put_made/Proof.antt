@@ -16,7 +16,7 @@ use Rattle.resolving.specs.Call.{noteNumbers}
 use Rattle.merging.specs.Packing.{effectOf}
 use Rattle.settling.specs.Answers.{resolvedAs}
 use Rattle.settling.specs.Stages.{grounded}
-use Rattle.settling.specs.Short.{FewGrounding, FewAnswers, Roomy}
+use Rattle.settling.specs.Attempts.{EffectsGrouped, AttemptAs, Roomy}
 use Rattle.settling.proofs.Answering.{refused-answers, short-ground, short-effects, short-notes, room-answers, lengths-same}
 use Rattle.settling.proofs.Grounds.{many-grounded, long-grounded, fine-grounded}
 use Rattle.settling.proofs.Settling.{front-stands}
@@ -29,7 +29,7 @@ context-of s = handedContext (now (s .args .block)) (now (s .args .lists))
 
 abbrev Given : tie.Start → Type 0
 Given s =
-    FewGrounding (context-of s) (s .args .tally) (now (s .args .dropped)) (now (s .args .work)) (now (s .args .listed)) (s .args .count)
+    EffectsGrouped (context-of s) (s .args .tally) (now (s .args .dropped)) (now (s .args .work)) (now (s .args .listed)) (s .args .count)
     (s .args .groups) (now (s .args .made))
 
 -- where the function begins, by the place of its first test, and where the groups are written, by later places
@@ -49,7 +49,7 @@ add-if1 : tie.Need-add-if1
 add-if1 c = let g = start c .pre .3 in omega (arith, g .tallied .few, g .known .stand .few)
 
 returns : tie.Need-returns
-unfolding FewAnswers Roomy
+unfolding AttemptAs Roomy
 returns c =
     let t = c .before in (
       (λ g.
@@ -73,7 +73,7 @@ module _ (p : tie.After-put-groups) (g : Given (start-of p)) where
   long = text-long g (p .put-groups .ensures)
 
 returns-2 : tie.Need-returns-2
-unfolding FewAnswers Roomy
+unfolding AttemptAs Roomy
 returns-2 c =
     let t = c .before in
     let p = t .before .before .before in (
@@ -85,7 +85,7 @@ returns-2 c =
     )
 
 returns-3 : tie.Need-returns-3
-unfolding FewAnswers Roomy
+unfolding AttemptAs Roomy
 returns-3 c =
     ((λ g. (refl, refl)), omega (arith, c .if3 .taken, c .before .if2 .left, same-room (written-at (c .before) .put-groups .ensures)))
 
@@ -103,7 +103,7 @@ fine q g =
     fine-grounded (context-of (start-of p)) (g .what) (few-statements p g) (omega (arith, q .if2 .left, long p g))
 
 returns-4 : tie.Need-returns-4
-unfolding FewAnswers Roomy
+unfolding AttemptAs Roomy
 returns-4 c =
     let t = c .before in
     let q = tested-at (t .before) in
@@ -115,7 +115,7 @@ returns-4 c =
     )
 
 returns-5 : tie.Need-returns-5
-unfolding FewAnswers Roomy
+unfolding AttemptAs Roomy
 returns-5 c =
     let t = c .before in
     let q = tested-at (t .before .before) in
@@ -127,7 +127,7 @@ returns-5 c =
     )
 
 returns-6 : tie.Need-returns-6
-unfolding FewAnswers Roomy
+unfolding AttemptAs Roomy
 returns-6 c =
     let t = c .before in
     let n = t .before .before .before in
@@ -147,7 +147,7 @@ put-notes-requires c κs =
     (omega (arith, f .if6 .left, n .note-count .ensures), s .pre .3 .tallied .held)
 
 returns-7 : tie.Need-returns-7
-unfolding FewAnswers Roomy resolvedAs
+unfolding AttemptAs Roomy resolvedAs
 returns-7 c =
     let w = c .before in
     let u = w .before .before .before .before in

@@ -9,10 +9,10 @@ use Rattle.resolving.specs.Handed.{handedContext}
 use Rattle.merging.specs.declared.Outcome.the-variants as outcomes
 use Rattle.merging_few.specs.declared.United.{United}
 use Rattle.merging_few.specs.Merging.{outcomeOf, ListedBy}
-use Rattle.settling.specs.Short.{FewAnswers}
+use Rattle.settling.specs.Attempts.{AttemptAs}
 use Rattle.settling.proofs.Answering.{refused-answers}
 use Rattle.settling.proofs.Settling.{forced-brought, on-merged}
-use Rattle.settling.proofs.Short.{few-grounding, same-few}
+use Rattle.settling.proofs.Grouping.{few-grounding, same-few}
 use Rattle.settling.proofs.settle_few.Statement.{statement}
 use Rattle.settling.proofs.settle_few.Tie as tie
 
@@ -37,7 +37,7 @@ as-outcome : (u : tie.After-united) → outcomeOf (merged-of u .settle-few .resu
 as-outcome u = ap outcomeOf (u .united .given .1)
 
 returns : tie.Need-returns
-unfolding FewAnswers
+unfolding AttemptAs
 returns c x = (refl, refl)
 
 settle-few-requires : tie.Need-settle-few-requires
@@ -47,7 +47,7 @@ settle-few-requires c κs =
     (omega (arith, e .if1 .left), omega (arith, e .if1 .left, s .pre .4), omega arith)
 
 returns-2 : tie.Need-returns-2
-unfolding FewAnswers
+unfolding AttemptAs
 returns-2 c t =
     let x = c .before .before .index .given in
     let m = c .before .before .before .before .before .before .before in

@@ -6,10 +6,10 @@ use borrow.Author.Needs.{needs}
 use Rattle.resolving.specs.Context.{Context}
 use Rattle.resolving.specs.Handed.{handedContext}
 use Rattle.merging.proofs.Answers.{merged-plain}
-use Rattle.settling.specs.Short.{FewAnswers, Roomy}
+use Rattle.settling.specs.Attempts.{AttemptAs, Roomy}
 use Rattle.settling.proofs.Answering.{refused-answers}
 use Rattle.settling.proofs.Settling.{over-brought, forced-brought, on-merged, over-grouped}
-use Rattle.settling.proofs.Short.{many-grounding, same-few}
+use Rattle.settling.proofs.Grouping.{many-grounding, same-few}
 use Rattle.settling.proofs.settle_many.Statement.{statement}
 use Rattle.settling.proofs.settle_many.Tie as tie
 
@@ -21,7 +21,7 @@ abbrev context-of : tie.Start → Context
 context-of s = handedContext (now (s .args .block)) (now (s .args .lists))
 
 returns : tie.Need-returns
-unfolding FewAnswers Roomy
+unfolding AttemptAs Roomy
 returns c =
     let s = c .before .before .before .before .before .before .before .before .before in (
       (λ t. refused-answers (c .refuse .result) 18 0 (over-brought (t .there) (context-of s) (c .before .if1 .taken)) (c .refuse .ensures)),
@@ -36,7 +36,7 @@ few-terms : (m : tie.After-settle) → start-of m .args .tally .terms ≤ 2048
 few-terms m = m .before .before .if1 .left
 
 returns-2 : tie.Need-returns-2
-unfolding FewAnswers Roomy
+unfolding AttemptAs Roomy
 returns-2 c =
     let x = c .before .before .index .given in
     let m = c .before .before .before .before .before .before in (
@@ -58,7 +58,7 @@ group-requires c κs =
     )
 
 returns-3 : tie.Need-returns-3
-unfolding FewAnswers Roomy
+unfolding AttemptAs Roomy
 returns-3 c =
     let g = c .before .before .before .before .before in
     let x = g .before .before .before .count .given in
