@@ -15,14 +15,11 @@ use Rattle.reading_laws.specs.WellFormed.{wellFormed}
 use Rattle.reading_laws.specs.Spelled.{asRead}
 use Rattle.reading_laws.proofs.WellRead.{text-well-formed}
 use Rattle.reading_laws.proofs.Spelled.{text-as-read}
-use Rattle.reading_laws.proofs.Accepting.{not-refused}
+use Rattle.reading_laws.proofs.Accepting.{not-refused, value-of}
 use Rattle.statements.specs.Answers.{chosen, nthOf}
 
 some-inj : {A : Type 0} {x y : A} → _≡_ {A = Option A} (some x) (some y) → x ≡ y
 some-inj e = cc
-
-accepted-inj : {A : Type 0} {x y : A} → accepted x ≡ accepted y → x ≡ y
-accepted-inj e = cc
 
 -- what all of a list pass, the one at an index passes
 at-index : {A : Type 0} (p : A → Bool) (xs : List A) (i : ℕ) (x : A) → all p xs ≡ true → some x ≡ getElem? xs i → p x ≡ true
@@ -41,7 +38,7 @@ found-passes p i x (accepted ss) h e = go (getElem? ss i) refl e
   where
     go : (o : Option Statement) → o ≡ getElem? ss i → accepted x ≡ chosen i o → p x ≡ true
     go none g e = absurd (not-refused (sym e))
-    go (some y) g e = at-index p ss i x (h ss refl) (ap some (accepted-inj e) ∙ g)
+    go (some y) g e = at-index p ss i x (h ss refl) (ap some (value-of e) ∙ g)
 
 -- It is well formed, and its names end before the text does.
 pub found-well : (limit : ℕ) (s : List ℕ) (i : ℕ) (x : Statement) → accepted x ≡ nthOf i (readText limit s) → wellFormed limit x ≡ true

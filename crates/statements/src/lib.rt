@@ -8,24 +8,28 @@ ghost use Rattle.tokens.specs.Class.{classTable};
 ghost use Rattle.tokens.specs.Next.{tokenAt};
 ghost use Rattle.labels.specs.Word.{sameWord};
 ghost use Rattle.labels.specs.Table.{labelTable, keywordTable};
-ghost use Rattle.reading.specs.Syntax.{keyword, letKeyword, opened};
+ghost use Rattle.reading.specs.Argument.{itemsOf};
+ghost use Rattle.reading.specs.Feature.{buildFeature};
+ghost use Rattle.reading.specs.Syntax.{featureMade, letMade, opened};
 ghost use Rattle.reading.specs.Read.{between};
 ghost use Rattle.reading.specs.One.{whole};
 ghost use Rattle.forms.specs.Items.{nameIn, tokensFrom};
-ghost use Rattle.forms.specs.Forms.{statementIn};
-ghost use Rattle.forms.specs.Fits.{InText};
-ghost use Rattle.arguments.specs.Answers.{readIn, stepIn};
+ghost use Rattle.forms.specs.Forms.{argIn, argsIn, statementIn};
+ghost use Rattle.forms.specs.Fits.{InText, Fits, AllFit};
+ghost use Rattle.arguments.specs.Answers.{stepIn};
 ghost use Rattle.statements.specs.Answers.{oneThen, NextFrom, FirstToken, EndedThen, EndedFurther, crowdedBy, readAt, nextThen, NextFurther, AdmissionAs, FirstFault, counted, countAs, indexed, nthAs, statementAs, counting, stating};
 use checks::ItemsRead;
 use features::Built;
+use forms::Arg;
+use forms::Args;
 use forms::Items;
 use forms::Name;
 use forms::Refusal;
 use forms::Statement;
 use labels::Keywords;
 use labels::Labels;
-use syntax::FeatureRead;
-use syntax::LetRead;
+use syntax::CallRead;
+use syntax::Head;
 use tokens::Classes;
 use tokens::Cursor;
 use tokens::Scanned;
@@ -150,61 +154,62 @@ fn completed(text: &[u8], classes: &Classes, form: Statement, cur: Cursor, n: us
     }
 }
 
-// A LET behind its keyword.
-fn let_statement(text: &[u8], classes: &Classes, cur: Cursor, n: usize, limit: u32) -> NextRead
-    requires { ⌜ (now classes ≡ classTable) × (n < 256) ⌝ }
-    ensures { λ r. ⌜ oneThen limit (length (now (text .entry))) n (readIn limit (now (text .entry)) letKeyword (cur .at)) ≡ nextThen limit (now (text .entry)) n r ⌝ }
-    ensures { λ r. ⌜ NextFrom (now (text .entry)) (suc (cur .at)) r ⌝ }
+// A LET that is read to its `)`.
+fn let_statement(
+    text: &[u8],
+    classes: &Classes,
+    name: Name,
+    arg: Arg,
+    cur: Cursor,
+    n: usize,
+) -> NextRead
+    requires { ⌜ (now classes ≡ classTable) × Fits (now text) arg × (n < 256) × (cur .at ≤ length (now text)) ⌝ }
+    ensures { λ r. ⌜
+        ((limit : ℕ)
+        → oneThen limit (length (now (text .entry))) n
+        (stepIn limit (now (text .entry)) (letMade (nameIn (now (text .entry)) name) (itemsOf (argIn (now (text .entry)) arg))) (cur .at))
+        ≡ nextThen limit (now (text .entry)) n r)
+        ⌝ }
+    ensures { λ r. ⌜ NextFrom (now (text .entry)) (cur .at) r ⌝ }
 {
-    match syntax::read_let(text, classes, cur, limit) {
-        LetRead::Let { name, arg, next } => match checks::items_of(arg) {
-            ItemsRead::Items(values) => completed(
-                text,
-                classes,
-                Statement::Let { name, values },
-                next,
-                n,
-            ),
-            ItemsRead::Refused(r) => NextRead::Refused(r),
-        },
-        LetRead::Refused(r) => NextRead::Refused(r),
+    match checks::items_of(arg) {
+        ItemsRead::Items(values) => completed(
+            text,
+            classes,
+            Statement::Let { name, values },
+            cur,
+            n,
+        ),
+        ItemsRead::Refused(r) => NextRead::Refused(r),
     }
 }
 
-// A feature's statement behind its keyword.
+// A feature's statement that is read to its `)`.
 fn feature_statement(
     text: &[u8],
     classes: &Classes,
     labels: &Labels,
     keys: &Keywords,
     name: Name,
+    optional: bool,
+    args: Args,
     cur: Cursor,
     n: usize,
     limit: u32,
 ) -> NextRead
-    requires { ⌜ (now classes ≡ classTable) × (now labels ≡ labelTable) × (now keys ≡ keywordTable) × InText (now text) name × (n < 256) ⌝ }
+    requires { ⌜ (now classes ≡ classTable) × (now labels ≡ labelTable) × (now keys ≡ keywordTable) ⌝ }
+    requires { ⌜ InText (now text) name × AllFit (now text) args × (n < 256) × (cur .at ≤ length (now text)) ⌝ }
     ensures { λ r. ⌜
-        oneThen limit (length (now (text .entry))) n (readIn limit (now (text .entry)) (keyword (nameIn (now (text .entry)) name)) (cur .at))
+        oneThen limit (length (now (text .entry))) n
+        (stepIn limit (now (text .entry))
+        (featureMade (buildFeature limit (nameIn (now (text .entry)) name) optional (argsIn (now (text .entry)) args))) (cur .at))
         ≡ nextThen limit (now (text .entry)) n r
         ⌝ }
-    ensures { λ r. ⌜ NextFrom (now (text .entry)) (suc (cur .at)) r ⌝ }
+    ensures { λ r. ⌜ NextFrom (now (text .entry)) (cur .at) r ⌝ }
 {
-    match syntax::read_feature(text, classes, cur, limit) {
-        FeatureRead::Call {
-            optional,
-            args,
-            next,
-        } => match features::build(text, classes, labels, keys, name, args, optional, limit) {
-            Built::Feature(feature) => completed(
-                text,
-                classes,
-                Statement::Feature(feature),
-                next,
-                n,
-            ),
-            Built::Refused(r) => NextRead::Refused(r),
-        },
-        FeatureRead::Refused(r) => NextRead::Refused(r),
+    match features::build(text, classes, labels, keys, name, args, optional, limit) {
+        Built::Feature(feature) => completed(text, classes, Statement::Feature(feature), cur, n),
+        Built::Refused(r) => NextRead::Refused(r),
     }
 }
 
@@ -227,10 +232,27 @@ fn statement(
         ⌝ }
     ensures { λ r. ⌜ NextFrom (now (text .entry)) (suc (cur .at)) r ⌝ }
 {
-    if is_let(text, name) {
-        return let_statement(text, classes, cur, n, limit);
+    match syntax::read_call(text, classes, cur, is_let(text, name), limit) {
+        CallRead::Call { head, args, next } => match head {
+            Head::Feature(optional) => feature_statement(
+                text,
+                classes,
+                labels,
+                keys,
+                name,
+                optional,
+                args,
+                next,
+                n,
+                limit,
+            ),
+            Head::Let(named) => {
+                let arg = args.first;
+                let_statement(text, classes, named, arg, next, n)
+            }
+        },
+        CallRead::Refused(r) => NextRead::Refused(r),
     }
-    feature_statement(text, classes, labels, keys, name, cur, n, limit)
 }
 
 // The next statement, where `n` were read before.

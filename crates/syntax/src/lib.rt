@@ -1,17 +1,14 @@
 // A statement behind its keyword, read to its `)`: a feature's arguments, or a LET's name and argument.
 ghost use mathlib.Core.Path.{_≡_};
-ghost use mathlib.Core.Bool.{Bool};
-ghost use mathlib.Core.List.{List, []};
+ghost use mathlib.Core.Bool.{cond};
+ghost use mathlib.Core.List.{[]};
 ghost use Prim.Native.Nat.{ℕ};
 ghost use Rattle.tokens.specs.Class.{classTable};
 ghost use Rattle.reading.specs.Statement.{Name as Name·spec};
-ghost use Rattle.reading.specs.Argument.{Arg as Arg·spec};
-ghost use Rattle.reading.specs.Syntax.{featureCall, letCall, keyword, letKeyword, letOpen};
+ghost use Rattle.reading.specs.Syntax.{keyword, letKeyword, letOpen};
 ghost use Rattle.reading.specs.Syntax.{argument as argument·state};
-ghost use Rattle.forms.specs.Items.{nameIn};
-ghost use Rattle.forms.specs.Fits.{InText};
 ghost use Rattle.arguments.specs.Answers.{readIn};
-ghost use Rattle.syntax.specs.Answers.{oneThen, OneFurther, openedThen, OpenedFurther, featureThen, FeatureFurther, letThen, LetFurther};
+ghost use Rattle.syntax.specs.Answers.{callOf, takesOne, misplaced, openedThen, OpenedFurther, callThen, CallFurther};
 use arguments::After;
 use arguments::ArgRead;
 use forms::Arg;
@@ -21,73 +18,58 @@ use forms::Refusal;
 use tokens::Classes;
 use tokens::Cursor;
 
-// One argument with the cursor behind the `,` after it, or behind the `)` where it is the last; a `)` where it would start; or a refusal.
-pub enum OneArg {
-    Arg { arg: Arg, last: bool, next: Cursor },
-    Close { at: usize, next: Cursor },
-    Refused(Refusal),
+// What arguments belong to: a feature, with whether a `?` stands behind its keyword, or a LET with its name.
+pub enum Head {
+    Feature(bool),
+    Let(Name),
 }
 
-// What stands between a feature's keyword and its arguments: `(`, or `?` and `(`.
+// What stands between a statement's keyword and its arguments: `(`, or `?` and `(`, of a feature; `(`, a name and `,` of a LET.
 enum Opened {
-    Call { optional: bool, next: Cursor },
+    Call { head: Head, next: Cursor },
     Refused(Refusal),
 }
 
-// The rest of a feature's statement.
-pub enum FeatureRead {
+// The rest of a statement behind its keyword.
+pub enum CallRead {
     Call {
-        optional: bool,
+        head: Head,
         args: Args,
         next: Cursor,
     },
     Refused(Refusal),
 }
 
-// The rest of a LET: its name and its argument.
-pub enum LetRead {
-    Let { name: Name, arg: Arg, next: Cursor },
-    Refused(Refusal),
-}
-
-// One argument of a feature, and what stands behind it.
-fn one_arg(text: &[u8], classes: &Classes, cur: Cursor, limit: u32) -> OneArg
-    requires { ⌜ now classes ≡ classTable ⌝ }
-    ensures { λ r. ⌜
-        ((k : Name·spec) (m : Bool) (ys : List Arg·spec)
-        → readIn limit (now (text .entry)) (argument·state (featureCall k m ys)) (cur .at) ≡ oneThen limit (now (text .entry)) k m ys r)
-        ⌝ }
-    ensures { λ r. ⌜ OneFurther (now (text .entry)) (cur .at) r ⌝ }
+// A LET has one argument; a feature may have any number.
+fn takes_one(head: Head) -> bool
+    ensures { λ r. ⌜ r ≡ takesOne head ⌝ }
 {
-    match arguments::argument(text, classes, cur, limit) {
-        ArgRead::Arg(arg, end) => match arguments::after_argument(text, classes, end) {
-            After::Comma { at: _, next } => OneArg::Arg {
-                arg,
-                last: false,
-                next,
-            },
-            After::Close(next) => OneArg::Arg {
-                arg,
-                last: true,
-                next,
-            },
-            After::Refused(r) => OneArg::Refused(r),
-        },
-        ArgRead::Close { at: o, next } => OneArg::Close { at: o, next },
-        ArgRead::Refused(r) => OneArg::Refused(r),
+    match head {
+        Head::Feature(_) => false,
+        Head::Let(_) => true,
     }
 }
 
-// The arguments behind a feature's `(`: they stand apart until the `)`, so that none is copied for the next; past the fourth only their
-// number is kept.
-fn read_args(text: &[u8], classes: &Classes, cur: Cursor, optional: bool, limit: u32) -> FeatureRead
+// A `,` or a `)` that may not stand where it does.
+fn misplaced_at(at: usize) -> CallRead
+    ensures { λ r. ⌜ r ≡ misplaced at ⌝ }
+{
+    CallRead::Refused(Refusal {
+        number: forms::UNEXPECTED,
+        place: at,
+    })
+}
+
+// The arguments, up to the `)`: they stand apart until then, so that none is copied for the next; past the fourth only their number is kept.
+fn read_args(text: &[u8], classes: &Classes, cur: Cursor, head: Head, limit: u32) -> CallRead
     requires { ⌜ now classes ≡ classTable ⌝ }
     ensures { λ r. ⌜
         ((k : Name·spec)
-        → readIn limit (now (text .entry)) (argument·state (featureCall k optional [])) (cur .at) ≡ featureThen limit (now (text .entry)) k r)
+        → readIn limit (now (text .entry)) (argument·state (callOf (now (text .entry)) k head [])) (cur .at) ≡ callThen limit (now (text .entry)) k r)
         ⌝ }
-    ensures { λ r. ⌜ FeatureFurther (now (text .entry)) (cur .at) r ⌝ }
+    ensures { λ r. ⌜ CallFurther (now (text .entry)) (cur .at) r ⌝ }
 {
+    let one = takes_one(head);
     let mut count = 0;
     let mut first = Arg::Star(0);
     let mut second = Arg::Star(0);
@@ -95,8 +77,8 @@ fn read_args(text: &[u8], classes: &Classes, cur: Cursor, optional: bool, limit:
     let mut fourth = Arg::Star(0);
     let mut from = cur;
     loop {
-        match one_arg(text, classes, from, limit) {
-            OneArg::Arg { arg, last, next } => {
+        match arguments::argument(text, classes, from, limit) {
+            ArgRead::Arg(arg, end) => {
                 match count {
                     0 => first = arg,
                     1 => second = arg,
@@ -105,47 +87,55 @@ fn read_args(text: &[u8], classes: &Classes, cur: Cursor, optional: bool, limit:
                     _ => {}
                 }
                 count += 1;
-                if last {
-                    return FeatureRead::Call {
-                        optional,
-                        args: Args {
-                            count,
-                            first,
-                            second,
-                            third,
-                            fourth,
-                        },
-                        next,
-                    };
+                match arguments::after_argument(text, classes, end) {
+                    After::Comma { at: o, next } => {
+                        if one {
+                            return misplaced_at(o);
+                        }
+                        from = next;
+                    }
+                    After::Close(next) => {
+                        return CallRead::Call {
+                            head,
+                            args: Args {
+                                count,
+                                first,
+                                second,
+                                third,
+                                fourth,
+                            },
+                            next,
+                        };
+                    }
+                    After::Refused(r) => return CallRead::Refused(r),
                 }
-                from = next;
             }
-            OneArg::Close { at: o, next } => {
-                if count == 0 {
-                    return FeatureRead::Call {
-                        optional,
-                        args: Args {
-                            count,
-                            first,
-                            second,
-                            third,
-                            fourth,
-                        },
-                        next,
-                    };
+            ArgRead::Close { at: o, next } => {
+                if one {
+                    return misplaced_at(o);
                 }
-                return FeatureRead::Refused(Refusal {
-                    number: forms::UNEXPECTED,
-                    place: o,
-                });
+                if count != 0 {
+                    return misplaced_at(o);
+                }
+                return CallRead::Call {
+                    head,
+                    args: Args {
+                        count,
+                        first,
+                        second,
+                        third,
+                        fourth,
+                    },
+                    next,
+                };
             }
-            OneArg::Refused(r) => return FeatureRead::Refused(r),
+            ArgRead::Refused(r) => return CallRead::Refused(r),
         }
     }
 }
 
 // A feature's statement behind its keyword, up to its first argument.
-fn open_call(text: &[u8], classes: &Classes, cur: Cursor) -> Opened
+fn open_feature(text: &[u8], classes: &Classes, cur: Cursor) -> Opened
     requires { ⌜ now classes ≡ classTable ⌝ }
     ensures { λ r. ⌜
         ((limit : ℕ) (k : Name·spec)
@@ -157,7 +147,7 @@ fn open_call(text: &[u8], classes: &Classes, cur: Cursor) -> Opened
     let next = token.next;
     if token.kind == b'(' {
         return Opened::Call {
-            optional: false,
+            head: Head::Feature(false),
             next,
         };
     }
@@ -170,83 +160,81 @@ fn open_call(text: &[u8], classes: &Classes, cur: Cursor) -> Opened
         return Opened::Refused(arguments::unexpected(second));
     }
     Opened::Call {
-        optional: true,
+        head: Head::Feature(true),
         next: after,
     }
 }
 
-// A feature's statement behind its keyword. Its arguments are read at this one place, so the compiler inlines their loop.
-pub fn read_feature(text: &[u8], classes: &Classes, cur: Cursor, limit: u32) -> FeatureRead
-    requires { ⌜ now classes ≡ classTable ⌝ }
-    ensures { λ r. ⌜ ((k : Name·spec) → readIn limit (now (text .entry)) (keyword k) (cur .at) ≡ featureThen limit (now (text .entry)) k r) ⌝ }
-    ensures { λ r. ⌜ FeatureFurther (now (text .entry)) (cur .at) r ⌝ }
-{
-    match open_call(text, classes, cur) {
-        Opened::Call { optional, next } => read_args(text, classes, next, optional, limit),
-        Opened::Refused(r) => FeatureRead::Refused(r),
-    }
-}
-
-// The argument of a LET whose name is read, and its `)`.
-fn let_value(text: &[u8], classes: &Classes, name: Name, cur: Cursor, limit: u32) -> LetRead
-    requires { ⌜ (now classes ≡ classTable) × InText (now text) name ⌝ }
-    ensures { λ r. ⌜
-        readIn limit (now (text .entry)) (argument·state (letCall (nameIn (now (text .entry)) name))) (cur .at)
-        ≡ letThen limit (now (text .entry)) r
-        ⌝ }
-    ensures { λ r. ⌜ LetFurther (now (text .entry)) (cur .at) r ⌝ }
-{
-    match arguments::argument(text, classes, cur, limit) {
-        ArgRead::Arg(arg, next) => match arguments::after_argument(text, classes, next) {
-            After::Close(end) => LetRead::Let {
-                name,
-                arg,
-                next: end,
-            },
-            After::Comma { at: o, next: _ } => LetRead::Refused(Refusal {
-                number: forms::UNEXPECTED,
-                place: o,
-            }),
-            After::Refused(r) => LetRead::Refused(r),
-        },
-        ArgRead::Close { at: o, next: _ } => LetRead::Refused(Refusal {
-            number: forms::UNEXPECTED,
-            place: o,
-        }),
-        ArgRead::Refused(r) => LetRead::Refused(r),
-    }
-}
-
 // A LET behind its keyword and its `(`: its name, and a `,`.
-fn let_name(text: &[u8], classes: &Classes, cur: Cursor, limit: u32) -> LetRead
+fn let_name(text: &[u8], classes: &Classes, cur: Cursor) -> Opened
     requires { ⌜ now classes ≡ classTable ⌝ }
-    ensures { λ r. ⌜ readIn limit (now (text .entry)) letOpen (cur .at) ≡ letThen limit (now (text .entry)) r ⌝ }
-    ensures { λ r. ⌜ LetFurther (now (text .entry)) (cur .at) r ⌝ }
+    ensures { λ r. ⌜
+        ((limit : ℕ) (k : Name·spec)
+        → readIn limit (now (text .entry)) letOpen (cur .at) ≡ openedThen limit (now (text .entry)) k r)
+        ⌝ }
+    ensures { λ r. ⌜ OpenedFurther (now (text .entry)) (cur .at) r ⌝ }
 {
     let token = cur.token(text, classes);
     let next = token.next;
     if token.kind != tokens::WORD {
-        return LetRead::Refused(arguments::unexpected(token));
+        return Opened::Refused(arguments::unexpected(token));
     }
     let comma = next.token(text, classes);
     let after = comma.next;
     if comma.kind != b',' {
-        return LetRead::Refused(arguments::unexpected(comma));
+        return Opened::Refused(arguments::unexpected(comma));
     }
     let name = arguments::named(token);
-    let_value(text, classes, name, after, limit)
+    Opened::Call {
+        head: Head::Let(name),
+        next: after,
+    }
 }
 
-// A LET behind its keyword.
-pub fn read_let(text: &[u8], classes: &Classes, cur: Cursor, limit: u32) -> LetRead
+// A LET behind its keyword, up to its argument.
+fn open_let(text: &[u8], classes: &Classes, cur: Cursor) -> Opened
     requires { ⌜ now classes ≡ classTable ⌝ }
-    ensures { λ r. ⌜ readIn limit (now (text .entry)) letKeyword (cur .at) ≡ letThen limit (now (text .entry)) r ⌝ }
-    ensures { λ r. ⌜ LetFurther (now (text .entry)) (cur .at) r ⌝ }
+    ensures { λ r. ⌜
+        ((limit : ℕ) (k : Name·spec)
+        → readIn limit (now (text .entry)) letKeyword (cur .at) ≡ openedThen limit (now (text .entry)) k r)
+        ⌝ }
+    ensures { λ r. ⌜ OpenedFurther (now (text .entry)) (cur .at) r ⌝ }
 {
     let token = cur.token(text, classes);
     let next = token.next;
     if token.kind != b'(' {
-        return LetRead::Refused(arguments::unexpected(token));
+        return Opened::Refused(arguments::unexpected(token));
     }
-    let_name(text, classes, next, limit)
+    let_name(text, classes, next)
+}
+
+// A statement behind its keyword, up to its first argument.
+fn open_call(text: &[u8], classes: &Classes, cur: Cursor, is_let: bool) -> Opened
+    requires { ⌜ now classes ≡ classTable ⌝ }
+    ensures { λ r. ⌜
+        ((limit : ℕ) (k : Name·spec)
+        → readIn limit (now (text .entry)) (cond is_let letKeyword (keyword k)) (cur .at) ≡ openedThen limit (now (text .entry)) k r)
+        ⌝ }
+    ensures { λ r. ⌜ OpenedFurther (now (text .entry)) (cur .at) r ⌝ }
+{
+    if is_let {
+        return open_let(text, classes, cur);
+    }
+    open_feature(text, classes, cur)
+}
+
+// A statement behind its keyword. The arguments of LETs and features are read at this one place, so the compiler inlines their loop, and the
+// reading of an argument into that.
+pub fn read_call(text: &[u8], classes: &Classes, cur: Cursor, is_let: bool, limit: u32) -> CallRead
+    requires { ⌜ now classes ≡ classTable ⌝ }
+    ensures { λ r. ⌜
+        ((k : Name·spec)
+        → readIn limit (now (text .entry)) (cond is_let letKeyword (keyword k)) (cur .at) ≡ callThen limit (now (text .entry)) k r)
+        ⌝ }
+    ensures { λ r. ⌜ CallFurther (now (text .entry)) (cur .at) r ⌝ }
+{
+    match open_call(text, classes, cur, is_let) {
+        Opened::Call { head, next } => read_args(text, classes, next, head, limit),
+        Opened::Refused(r) => CallRead::Refused(r),
+    }
 }

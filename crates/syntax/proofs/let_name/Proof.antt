@@ -1,4 +1,4 @@
--- `syntax::let_name` meets its contract: a word and a `,`, and then the argument. Assumes nothing.
+-- `syntax::let_name` meets its contract: a word and a `,`. Assumes nothing.
 use mathlib.Core.Path.{refl, _∙_, ap, sym}
 use native.Mathlib.Omega.{arith}
 use borrow.Author.Tests.{ne-eqb}
@@ -10,9 +10,8 @@ use Rattle.reading.specs.Syntax as syntax
 use Rattle.tokens.proofs.Views.{Known, known, known-word, known-mark}
 use Rattle.arguments.specs.Answers.{readIn, refusedBy}
 use Rattle.arguments.proofs.Reading.{read-token, rejected}
-use Rattle.arguments.proofs.Names.{same-name, in-text}
-use Rattle.syntax.specs.Answers.{letThen, LetFurther}
-use Rattle.syntax.proofs.Going.{let-further}
+use Rattle.arguments.proofs.Names.{same-name}
+use Rattle.syntax.specs.Answers.{openedThen, OpenedFurther}
 use borrow.Author.Needs.{needs}
 use Rattle.syntax.proofs.let_name.Statement.{statement}
 use Rattle.syntax.proofs.let_name.Tie as tie
@@ -28,25 +27,26 @@ beyond :
 beyond e = known _ _ (e .token2 .result) (e .token2 .ensures)
 
 returns : tie.Need-returns
-unfolding turn letThen LetFurther
+unfolding turn openedThen OpenedFurther
 returns c =
     let d = c .before .before .before .before in (
-      rejected (d .before .before .args .limit) _ letOpen _ (d .token .result) (here d) (λ w e. absurd (c .before .if1 .taken e)) (λ w e. refl) (λ h. refl)
-          ∙ ap refusedBy (sym (c .unexpected .ensures)),
+      (λ limit k.
+          rejected limit _ letOpen _ (d .token .result) (here d) (λ w e. absurd (c .before .if1 .taken e)) (λ w e. refl) (λ h. refl)
+          ∙ ap refusedBy (sym (c .unexpected .ensures))),
       tt,
     )
 
 returns-2 : tie.Need-returns-2
-unfolding turn letThen LetFurther
+unfolding turn openedThen OpenedFurther
 returns-2 c =
     let e = c .before .before .before .before in
     let d = e .before .before .before .before in
-    let a = d .before .before .args in
     let r = known-word (here d) (e .before .if1 .left) in (
-      read-token (a .limit) _ letOpen _ _ _ r
-          ∙ rejected (a .limit) _ (letNamed _) _ (e .token2 .result) (beyond e) (λ w q. refl) (λ w q. refl)
+      (λ limit k.
+          read-token limit _ letOpen _ _ _ r
+          ∙ rejected limit _ (letNamed _) _ (e .token2 .result) (beyond e) (λ w q. refl) (λ w q. refl)
           (λ h. simp (ne-eqb _ 44 (c .before .if2 .taken)))
-          ∙ ap refusedBy (sym (c .unexpected2 .ensures)),
+          ∙ ap refusedBy (sym (c .unexpected2 .ensures))),
       tt,
     )
 
@@ -55,28 +55,20 @@ named-requires c κs =
     let r = known-word (here (c .before .before .before .before .before .before .before)) (c .before .before .before .before .if1 .left) in
     omega (arith, r .wide)
 
-let-value-requires : tie.Need-let-value-requires
-let-value-requires c κs =
+returns-3 : tie.Need-returns-3
+unfolding turn openedThen OpenedFurther
+returns-3 c =
     let e = c .before .before .before .before in
     let d = e .before .before .before .before in
+    let s = now (d .before .before .args .text) in
     let r = known-word (here d) (e .before .if1 .left) in
-    (d .before .before .pre, in-text _ (d .token .result) (c .named .ensures) r)
-
-returns-3 : tie.Need-returns-3
-unfolding turn
-returns-3 c =
-    let e = c .before .before .before .before .before in
-    let d = e .before .before .before .before in
-    let a = d .before .before .args in
-    let s = now (a .text) in
-    let r = known-word (here d) (e .before .if1 .left) in
-    let q = known-mark (beyond e) 44 (c .before .before .if2 .left) (lit≤ tt) in (
-      read-token (a .limit) _ letOpen _ _ _ r
-          ∙ read-token (a .limit) _ (letNamed _) _ _ _ q
-          ∙ ap (λ (n : Name). readIn (a .limit) s (syntax.argument (letCall n)) (e .token2 .result .next .at))
-          (same-name s (d .token .result) (c .before .named .ensures))
-          ∙ c .let-value .ensures .0,
-      let-further _ _ _ (c .let-value .result) (omega (arith, r .ahead, r .wide, q .ahead, q .wide)) (c .let-value .ensures .1),
+    let q = known-mark (beyond e) 44 (c .before .if2 .left) (lit≤ tt) in (
+      (λ limit k.
+          read-token limit _ letOpen _ _ _ r
+          ∙ read-token limit _ (letNamed _) _ _ _ q
+          ∙ ap (λ (n : Name). readIn limit s (syntax.argument (letCall n)) (e .token2 .result .next .at))
+          (same-name s (d .token .result) (c .named .ensures))),
+      (omega (arith, r .ahead, r .wide, q .ahead, q .wide), q .within),
     )
 
 pub let-name-spec : {M : Type 1} → statement M
@@ -90,5 +82,4 @@ let-name-spec =
     (λ c κs. search needs)
     returns-2
     named-requires
-    let-value-requires
     returns-3)

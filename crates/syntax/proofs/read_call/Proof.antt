@@ -1,12 +1,12 @@
--- `syntax::read_feature` meets its contract: what opens the call, and then the arguments. Assumes nothing.
+-- `syntax::read_call` meets its contract: what opens the call, and then the arguments. Assumes nothing.
 use mathlib.Core.Path.{_∙_, ap, subst}
 use native.Mathlib.Omega.{arith}
 use denote.Ref.{now}
-use Rattle.syntax.specs.Answers.{openedThen, OpenedFurther, featureThen, FeatureFurther}
-use Rattle.syntax.proofs.Going.{feature-further}
+use Rattle.syntax.specs.Answers.{openedThen, OpenedFurther, callThen, CallFurther}
+use Rattle.syntax.proofs.Going.{call-further}
 use borrow.Author.Needs.{needs}
-use Rattle.syntax.proofs.read_feature.Statement.{statement}
-use Rattle.syntax.proofs.read_feature.Tie as tie
+use Rattle.syntax.proofs.read_call.Statement.{statement}
+use Rattle.syntax.proofs.read_call.Tie as tie
 
 returns : tie.Need-returns
 unfolding openedThen OpenedFurther
@@ -14,21 +14,21 @@ returns c =
     let d = c .before .before .before .before in
     let a = d .before .before .args in
     let s = now (a .text) in
-    let x = c .before .before .optional .given in
+    let x = c .before .before .head .given in
     let f = subst (OpenedFurther s (a .cur .at)) (x .1) (d .open-call .ensures .1) in (
       (λ k. d .open-call .ensures .0 (a .limit) k ∙ ap (openedThen (a .limit) s k) (x .1) ∙ c .read-args .ensures .0 k),
-      feature-further s _ _ (c .read-args .result) (omega (arith, f .0)) (c .read-args .ensures .1),
+      call-further s _ _ (c .read-args .result) (omega (arith, f .0)) (c .read-args .ensures .1),
     )
 
 returns-2 : tie.Need-returns-2
-unfolding openedThen featureThen FeatureFurther
+unfolding openedThen callThen CallFurther
 returns-2 c =
     let d = c .before .before .before in
     let a = d .before .before .args in
     ((λ k. d .open-call .ensures .0 (a .limit) k ∙ ap (openedThen (a .limit) (now (a .text)) k) (c .before .r .given .1)), tt)
 
-pub read-feature-spec : {M : Type 1} → statement M
-read-feature-spec =
+pub read-call-spec : {M : Type 1} → statement M
+read-call-spec =
     tie.close
     (tie.spec
     (λ c κs. search needs)
