@@ -1,11 +1,11 @@
--- `requests::answer_statement` is safe and ends: the lists of a value have at most 64 entries. Assumes nothing.
+-- `text_lines::answer_statement` is safe and ends: the lists of a value have at most 64 entries. Assumes nothing.
 use Prim.Native.Nat.{_≤_}
 use mathlib.Core.Path.{subst}
 use borrow.Author.Needs.{needs}
 use Rattle.statements.specs.declared.StatementAt.{StatementAt}
 use Rattle.values.specs.Lists.{foundLists}
-use Rattle.requests.proofs.answer_statement.Statement.{statement}
-use Rattle.requests.proofs.answer_statement.Tie as tie
+use Rattle.text_lines.proofs.answer_statement.Statement.{statement}
+use Rattle.text_lines.proofs.answer_statement.Tie as tie
 
 abbrev Few : StatementAt → Type 0
 Few x = (foundLists x .first .count ≤ 64) × (foundLists x .second .count ≤ 64) × (foundLists x .counts .count ≤ 64)
