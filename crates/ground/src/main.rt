@@ -2,11 +2,17 @@
 // the ground text and a newline, or `refused`, the fault's number and its place. A word asks for the effects or for the notes as lines. Where
 // the text is refused a person also gets the cause on standard error, and where it is not, the notes.
 use forms::Refusal;
-use ground_files::Sizes;
-use ground_files::asked;
-use ground_files::asked::Asked;
 use input::Got;
+use lines::within;
 use settling::Resolved;
+use show_answers::asked;
+use show_answers::asked::Asked;
+use show_answers::ground_files;
+use show_answers::ground_files::Sizes;
+use show_contexts::context_file;
+use show_contexts::context_messages;
+use show_pages::pages;
+use show_refusals::ground_messages;
 
 // The message for a person: what is wrong with the context has its file's name before it.
 fn explain(
@@ -77,7 +83,7 @@ fn answer_context(asked: Asked, text: &[u8], path: &[u8], file: &[u8]) {
         return ground_files::tell_malformed(path, file, taken);
     }
     let bytes = pages::within(taken.bytes, &block);
-    let numbers = effect_lines::within::numbers(taken.numbers, &run);
+    let numbers = within::numbers(taken.numbers, &run);
     answer(asked, text, &block[..bytes], &run[..numbers], path, file)
 }
 

@@ -2,6 +2,7 @@
 // taken up again. Every other failure is told on standard error: one of a descriptor that has nothing now (EAGAIN) too, for a proved loop has
 // to end and cannot wait. At a pipe that nobody reads (SIGPIPE) and past a limit of a file's size (SIGXFSZ) the system ends the process, unless
 // whoever started it said otherwise; then these are failures as any other.
+use show_pages::pages;
 ghost use Prim.Native.Nat.{_≤_};
 ghost use lib.ListN.{length};
 ghost use Rattle.input.specs.Within.{Within};

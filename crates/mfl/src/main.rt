@@ -5,6 +5,9 @@ use forms::Refusal;
 use input::Got;
 use profile::Profiled;
 use render::Printed;
+use show_pages::pages;
+use show_texts::profile_messages;
+use show_texts::text_messages;
 
 // What is asked about a text.
 enum Asked {

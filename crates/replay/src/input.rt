@@ -1,5 +1,6 @@
 // Lines of standard input, which come in pieces.
 use lines::output;
+use replay_requests::requests;
 ghost use Rattle.io.specs.Counts.{Counts};
 
 // How many bytes of the line are there, and how many bytes of output are waiting. A line that does not fit is one longer than its buffer.

@@ -1,0 +1,32 @@
+-- `answer_lines::put_notes` is safe and ends. The measure is how many notes are left. Assumes nothing.
+use Prim.Native.Nat.{_-_}
+use mathlib.Core.Path.{_≡_}
+use lib.ListN.{length}
+use borrow.Author.Needs.{needs}
+use Rattle.show_answers.proofs.answer_lines.put_notes.Statement.{statement}
+use Rattle.show_answers.proofs.answer_lines.put_notes.Tie as tie
+
+abbrev Inv-loop : tie.InvT-loop
+Inv-loop page₀ len text notes count word n₀ i₀ page n i = (length page ≡ length page₀)
+
+abbrev μ-loop : tie.MeasureT-loop
+μ-loop page₀ len text notes count word n₀ i₀ page n i = count - i
+
+pub put-notes-spec : {M : Type 1} → statement M
+put-notes-spec =
+    tie.close
+    (tie.spec
+    Inv-loop
+    μ-loop
+    (λ c. search needs)
+    (λ c. search needs)
+    (λ c. search needs)
+    (λ c κs. search needs)
+    (λ c. search needs)
+    (λ c. search needs)
+    (λ c κs. search needs)
+    (λ c. search needs)
+    (λ c. search needs)
+    (λ c. search needs)
+    (λ c. search needs)
+    (λ c. search needs))

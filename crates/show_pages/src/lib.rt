@@ -1,0 +1,3 @@
+// Text put together in a buffer before any of it goes out (`pages`), and where a fault stands: its line, its column, the mark under it (`places`).
+pub mod pages;
+pub mod places;
