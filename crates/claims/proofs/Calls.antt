@@ -26,9 +26,9 @@ use Rattle.reading.specs.Statement.{Statement}
 use Rattle.reading.specs.Answer.{Answer, accepted, refused, _>>=_}
 use Rattle.reading.specs.Read.{readText}
 use Rattle.canonical_laws.specs.Forgotten.{forget}
-use Rattle.statements.specs.Answers.{counted, chosen, nthOf, counting, stating}
-use Rattle.values.specs.Calls.{Joined}
-use Rattle.values.proofs.Joining.{joined}
+use Rattle.read_statements.specs.Answers.{counted, chosen, nthOf, counting, stating}
+use Rattle.read_values.specs.Calls.{Joined}
+use Rattle.read_values.proofs.Joining.{joined}
 use Rattle.resolving.specs.Lists.{gather}
 use Rattle.resolving.specs.Faults.{wrongContext}
 use Rattle.resolving.specs.Resolve.{Resolved, groundText, resolve}

@@ -15,7 +15,7 @@ use Rattle.reading.specs.Statement.{Statement}
 use Rattle.reading.specs.Answer.{Answer, accepted, refused}
 use Rattle.canonical.specs.Print.{printText}
 use Rattle.canonical_laws.specs.Forgotten.{forget}
-use Rattle.statements.specs.Answers.{counting, stating}
+use Rattle.read_statements.specs.Answers.{counting, stating}
 use Rattle.resolving.specs.Lists.{any, gather}
 use Rattle.resolving.specs.Resolve.{Resolved, groundText}
 use Rattle.resolving.specs.Call.{Lengths, resolveCall}

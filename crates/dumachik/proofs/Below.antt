@@ -22,10 +22,10 @@ use Rattle.claims.proofs.Places.{reading-within}
 use Rattle.profiling.specs.Profile.{Yes, profileText}
 use Rattle.profiling.specs.Refused.{RefusedBy, by-reading, by-profile}
 use Rattle.profiling.proofs.Places.{refused-by}
-use Rattle.statements.specs.Answers.{counted, chosen, nthOf}
-use Rattle.statements.proofs.Found.{found-well}
-use Rattle.statements.specs.Answers.{counting}
-use Rattle.statement_numbers.specs.Answers.{numbered, numbering}
+use Rattle.read_statements.specs.Answers.{counted, chosen, nthOf}
+use Rattle.read_statements.proofs.Found.{found-well}
+use Rattle.read_statements.specs.Answers.{counting}
+use Rattle.numbers_statement.specs.Answers.{numbered, numbering}
 use Rattle.dumachik.specs.Word.{Below, yesAsZero}
 
 -- a text's fault is told within its first 16,384 bytes

@@ -8,10 +8,10 @@ use lib.ListN.{length}
 use Rattle.reading.specs.Statement.{Statement}
 use Rattle.reading.specs.Answer.{Answer, accepted, refused}
 use Rattle.canonical_laws.proofs.Offsets.{numbers-raised}
-use Rattle.values.specs.Calls.{raised}
-use Rattle.statements.specs.Answers.{counting, stating}
-use Rattle.values.proofs.Joining.{joined}
-use Rattle.statement_numbers.specs.Answers.{numbered}
+use Rattle.read_values.specs.Calls.{raised}
+use Rattle.read_statements.specs.Answers.{counting, stating}
+use Rattle.read_values.proofs.Joining.{joined}
+use Rattle.numbers_statement.specs.Answers.{numbered}
 use Rattle.dumachik.specs.Joined.{numbersOn, NumbersJoined}
 
 raised-numbers : (d : ℕ) (a : Answer Statement) → numbered (raised d a) ≡ numbersOn d a

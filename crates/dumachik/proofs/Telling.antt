@@ -22,10 +22,10 @@ use Rattle.resolving.specs.Resolve.{Resolved}
 use Rattle.resolving.specs.Call.{Lengths, lengthsOf, resolveCall}
 use Rattle.resolving_laws.proofs.Faults.{call-gives}
 use Rattle.resolving_laws.proofs.Passed.{refused≢accepted}
-use Rattle.statements.specs.Answers.{counted, counting, chosen, nthOf}
-use Rattle.statement_numbers.specs.Answers.{numbered, numbering}
-use Rattle.records.specs.Words.{lengthsWord, resolvedWord, Small}
-use Rattle.records.proofs.Below.{resolved-small}
+use Rattle.read_statements.specs.Answers.{counted, counting, chosen, nthOf}
+use Rattle.numbers_statement.specs.Answers.{numbered, numbering}
+use Rattle.resolve_records.specs.Words.{lengthsWord, resolvedWord, Small}
+use Rattle.resolve_records.proofs.Below.{resolved-small}
 use Rattle.profiling.specs.Profile.{Yes, profileText}
 use Rattle.profiling.specs.Refused.{RefusedBy, by-reading, by-profile}
 use Rattle.profiling.proofs.Places.{refused-by}

@@ -7,22 +7,22 @@ ghost use Rattle.tokens.specs.Lex.{tokens};
 ghost use Rattle.tokens.specs.Next.{scanned};
 ghost use Rattle.canonical.specs.Print.{printText, lengthOf, fitting, output};
 ghost use Rattle.canonical.specs.Numbers.{allNumbering};
-ghost use Rattle.statements.specs.Answers.{counting};
-ghost use Rattle.statement_numbers.specs.Answers.{numbering};
+ghost use Rattle.read_statements.specs.Answers.{counting};
+ghost use Rattle.numbers_statement.specs.Answers.{numbering};
 ghost use Rattle.resolving.specs.Resolve.{groundText};
 ghost use Rattle.resolving.specs.Call.{resolveCall, lengthsOf, outputOf, workAfter, noteNumbers};
-ghost use Rattle.settling.specs.Answers.{lent};
-ghost use Rattle.records.specs.Records.{recordOf};
-ghost use Rattle.records.specs.Words.{resolvedWord};
+ghost use Rattle.resolve_settling.specs.Answers.{lent};
+ghost use Rattle.resolve_records.specs.Records.{recordOf};
+ghost use Rattle.resolve_records.specs.Words.{resolvedWord};
 ghost use Rattle.profiling.specs.Profile.{profileText};
 ghost use Rattle.dumachik.specs.Scan.{strayAt};
 ghost use Rattle.dumachik.specs.Word.{word, yesAsZero};
-use forms::Refusal;
-use profile::Profiled;
-use records::Effect;
-use render::Printed;
-use statement_numbers::NumbersAt;
-use statements::CountRead;
+use numbers_statement::NumbersAt;
+use print_render::Printed;
+use read_forms::Refusal;
+use read_profile::Profiled;
+use read_statements::CountRead;
+use resolve_records::Effect;
 use tokens::Scanned;
 
 // The offset of the first byte that starts no token, or the text's length where there is none.
@@ -48,7 +48,7 @@ fn refusal_word(refusal: Refusal) -> u64
 pub extern "C" fn mfl_count(text: &[u8], ceiling: u32) -> u64
     ensures { λ r. ⌜ r ≡ word (counting ceiling (now (text .entry))) ⌝ }
 {
-    match statements::count_under(text, ceiling) {
+    match read_statements::count_under(text, ceiling) {
         CountRead::Count(n) => n as u64,
         CountRead::Refused(refusal) => refusal_word(refusal),
     }
@@ -60,7 +60,7 @@ pub extern "C" fn mfl_statement(text: &[u8], index: u32, out: &mut [u32], ceilin
     ensures { λ r. ⌜ r ≡ word (lengthOf (fitting (length (now (out .entry))) (numbering ceiling (now (text .entry)) index))) ⌝ }
     ensures { λ _. ⌜ now (out .exit) ≡ output (fitting (length (now (out .entry))) (numbering ceiling (now (text .entry)) index)) (now (out .entry)) ⌝ }
 {
-    match statement_numbers::numbers_under(text, index, ceiling, out) {
+    match numbers_statement::numbers_under(text, index, ceiling, out) {
         NumbersAt::Count(n) => n as u64,
         NumbersAt::Refused(refusal) => refusal_word(refusal),
     }
@@ -73,7 +73,7 @@ pub extern "C" fn mfl_statements(text: &[u8], out: &mut [u32], ceiling: u32) -> 
     ensures { λ r. ⌜ r ≡ word (lengthOf (fitting (length (now (out .entry))) (allNumbering ceiling (now (text .entry))))) ⌝ }
     ensures { λ _. ⌜ now (out .exit) ≡ output (fitting (length (now (out .entry))) (allNumbering ceiling (now (text .entry)))) (now (out .entry)) ⌝ }
 {
-    match all_numbers::all_numbers_under(text, ceiling, out) {
+    match numbers_all::all_numbers_under(text, ceiling, out) {
         NumbersAt::Count(all) => all as u64,
         NumbersAt::Refused(fault) => refusal_word(fault),
     }
@@ -85,7 +85,7 @@ pub extern "C" fn mfl_print(text: &[u8], out: &mut [u8], ceiling: u32) -> u64
     ensures { λ r. ⌜ r ≡ word (lengthOf (fitting (length (now (out .entry))) (printText ceiling (now (text .entry))))) ⌝ }
     ensures { λ _. ⌜ now (out .exit) ≡ output (fitting (length (now (out .entry))) (printText ceiling (now (text .entry)))) (now (out .entry)) ⌝ }
 {
-    match render::print_under(text, out, ceiling) {
+    match print_render::print_under(text, out, ceiling) {
         Printed::Length(n) => n as u64,
         Printed::Refused(refusal) => refusal_word(refusal),
     }
@@ -96,7 +96,7 @@ pub extern "C" fn mfl_print(text: &[u8], out: &mut [u8], ceiling: u32) -> u64
 pub extern "C" fn mfl_profile(text: &[u8], ceiling: u32) -> u64
     ensures { λ r. ⌜ r ≡ word (yesAsZero (profileText ceiling (now (text .entry)))) ⌝ }
 {
-    match profile::profile_under(text, ceiling) {
+    match read_profile::profile_under(text, ceiling) {
         Profiled::Fits => 0,
         Profiled::Refused(refusal) => refusal_word(refusal),
     }
@@ -126,9 +126,18 @@ pub extern "C" fn mfl_resolve(
     ensures { λ _. ⌜ now (work .exit) ≡ workAfter (now (work .entry)) ⌝ }
 {
     let room = effects.len();
-    let word = records::resolve_word(text, block, lists, ground, room, notes, work, ceiling);
-    let n = records::effects_told(word);
-    records::store_effects(effects, work, n);
-    resolve::finish(work);
+    let word = resolve_records::resolve_word(
+        text,
+        block,
+        lists,
+        ground,
+        room,
+        notes,
+        work,
+        ceiling,
+    );
+    let n = resolve_records::effects_told(word);
+    resolve_records::store_effects(effects, work, n);
+    resolve_call::finish(work);
     word
 }

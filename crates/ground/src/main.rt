@@ -1,16 +1,16 @@
 // Resolves a search space in the context of a model: reads the context from a file, the text from a file or from standard input, and writes
 // the ground text and a newline, or `refused`, the fault's number and its place. A word asks for the effects or for the notes as lines. Where
 // the text is refused a person also gets the cause on standard error, and where it is not, the notes.
-use forms::Refusal;
-use input::Got;
-use lines::within;
-use settling::Resolved;
+use read_forms::Refusal;
+use replay_lines::within;
+use resolve_settling::Resolved;
 use show_answers::asked;
 use show_answers::asked::Asked;
 use show_answers::ground_files;
 use show_answers::ground_files::Sizes;
 use show_contexts::context_file;
 use show_contexts::context_messages;
+use show_input::Got;
 use show_pages::pages;
 use show_refusals::ground_messages;
 
@@ -25,14 +25,14 @@ fn explain(
     refusal: Refusal,
 ) {
     let a = pages::put_all(page, 0, b"ground: ");
-    if refusal.number == taken::WRONG_CONTEXT {
+    if refusal.number == resolve_taking::WRONG_CONTEXT {
         let b = pages::put_all(page, a, path);
         let c = pages::put_all(page, b, b": ");
         let d = context_messages::put_wrong(page, c, block, lists, file);
-        return input::write_message(page, d);
+        return show_input::write_message(page, d);
     }
     let b = ground_messages::put_fault(page, a, text, block, lists, refusal.number, refusal.place);
-    input::write_message(page, b)
+    show_input::write_message(page, b)
 }
 
 // The answer about a text in a context. The page has room for 2,048 effects and 257 notes in words, which is more than anything else has.
@@ -42,7 +42,7 @@ fn answer(asked: Asked, text: &[u8], block: &[u8], lists: &[u32], path: &[u8], f
     let mut effects = [[0; 5]; 2048];
     let mut notes = [[0; 2]; 512];
     let mut work = [0; 8192];
-    match resolve::resolve(
+    match resolve_call::resolve(
         text,
         block,
         lists,
@@ -53,7 +53,7 @@ fn answer(asked: Asked, text: &[u8], block: &[u8], lists: &[u32], path: &[u8], f
     ) {
         Resolved::Refused(refusal) => {
             let n = pages::put_refused(&mut page, refusal.number, refusal.place);
-            input::write_page(b"ground: ", &page, n);
+            show_input::write_page(b"ground: ", &page, n);
             explain(&mut page, text, block, lists, path, file, refusal)
         }
         Resolved::Lengths(lengths) => ground_files::write_asked(
@@ -115,7 +115,7 @@ fn answer_named(asked: Asked, path: &[u8], index: usize, count: usize) {
     let mut name = io::buffer();
     let mut file = io::large_buffer();
     let mut text = io::large_buffer();
-    match input::read_file(b"ground: ", path, &mut file) {
+    match show_input::read_file(b"ground: ", path, &mut file) {
         Got::Failed => {}
         Got::Bytes(n) => {
             let got = ground_files::read_text(index, count, &mut name, &mut text);
@@ -126,7 +126,7 @@ fn answer_named(asked: Asked, path: &[u8], index: usize, count: usize) {
 
 // The name of the context's file is the argument at an index; at the next one the text's may follow.
 fn answer_arguments(asked: Asked, index: usize, next: usize, count: usize, name: &mut [u8]) {
-    match input::argument(b"ground: ", index, name) {
+    match show_input::argument(b"ground: ", index, name) {
         Got::Failed => {}
         Got::Bytes(n) => {
             let whole = pages::within(n, name);

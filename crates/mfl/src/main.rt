@@ -1,10 +1,10 @@
 // Reads a search space from a file or from standard input and writes its canonical text and a newline, or `refused`, the fault's number and
 // its place. Where it is refused a person also gets the cause on standard error. Nothing is written on standard output before all was read.
 // With `--profile` it writes `ok` where the space fits the PK-only profile.
-use forms::Refusal;
-use input::Got;
-use profile::Profiled;
-use render::Printed;
+use print_render::Printed;
+use read_forms::Refusal;
+use read_profile::Profiled;
+use show_input::Got;
 use show_pages::pages;
 use show_texts::profile_messages;
 use show_texts::text_messages;
@@ -18,35 +18,35 @@ enum Asked {
 // The message for a person: faults from 22 on are the profile's.
 fn explain(text: &[u8], page: &mut [u8], refusal: Refusal) {
     let a = pages::put_all(page, 0, b"mfl: ");
-    if refusal.number < profile::OUTSIDE_PROFILE {
+    if refusal.number < read_profile::OUTSIDE_PROFILE {
         let b = text_messages::put_fault(page, a, text, refusal.number, refusal.place);
-        return input::write_message(page, b);
+        return show_input::write_message(page, b);
     }
     let b = profile_messages::put_fault(page, a, text, refusal.number, refusal.place);
-    input::write_message(page, b)
+    show_input::write_message(page, b)
 }
 
 fn refuse(text: &[u8], page: &mut [u8], refusal: Refusal) {
     let n = pages::put_refused(page, refusal.number, refusal.place);
-    input::write_page(b"mfl: ", page, n);
+    show_input::write_page(b"mfl: ", page, n);
     explain(text, page, refusal)
 }
 
 fn answer_print(text: &[u8], page: &mut [u8]) {
-    match render::print(text, page) {
+    match print_render::print(text, page) {
         Printed::Length(length) => {
             let n = pages::put(page, length, b'\n');
-            input::write_page(b"mfl: ", page, n)
+            show_input::write_page(b"mfl: ", page, n)
         }
         Printed::Refused(refusal) => refuse(text, page, refusal),
     }
 }
 
 fn answer_profile(text: &[u8], page: &mut [u8]) {
-    match profile::profile_under(text, 64) {
+    match read_profile::profile_under(text, 64) {
         Profiled::Fits => {
             let n = pages::put_all(page, 0, b"ok\n");
-            input::write_page(b"mfl: ", page, n)
+            show_input::write_page(b"mfl: ", page, n)
         }
         Profiled::Refused(refusal) => refuse(text, page, refusal),
     }
@@ -84,12 +84,12 @@ fn answer_file(asked: Asked, path: &[u8], text: &mut [u8], page: &mut [u8]) {
             return usage();
         }
     }
-    let got = input::read_file(b"mfl: ", path, text);
+    let got = show_input::read_file(b"mfl: ", path, text);
     answer_got(asked, text, got, page)
 }
 
 fn answer_input(asked: Asked, text: &mut [u8], page: &mut [u8]) {
-    let got = input::read_input(b"mfl: ", text);
+    let got = show_input::read_input(b"mfl: ", text);
     answer_got(asked, text, got, page)
 }
 
@@ -102,7 +102,7 @@ fn answer_named(asked: Asked, index: usize, name: &mut [u8], text: &mut [u8], pa
     if index < count - 1 {
         return usage();
     }
-    match input::argument(b"mfl: ", index, name) {
+    match show_input::argument(b"mfl: ", index, name) {
         Got::Bytes(n) => {
             let whole = pages::within(n, name);
             answer_file(asked, &name[..whole], text, page)

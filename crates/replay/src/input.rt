@@ -1,5 +1,5 @@
 // Lines of standard input, which come in pieces.
-use lines::output;
+use replay_lines::output;
 use replay_requests::requests;
 ghost use Rattle.io.specs.Counts.{Counts};
 

@@ -2,10 +2,10 @@
 use crate::resolve_lines;
 use crate::text_lines;
 use crate::text_lines::Asked;
-use lines::output;
-use lines::words;
-use lines::words::Decoded;
-use lines::words::Numbered;
+use replay_lines::output;
+use replay_lines::words;
+use replay_lines::words::Decoded;
+use replay_lines::words::Numbered;
 ghost use Prim.Native.Nat.{_<_};
 ghost use lib.ListN.{length};
 

@@ -1,13 +1,13 @@
 // `resolve HEX MARKS BLOCK LISTS`, where the lengths of what is lent may follow, `G,E,N,W`; and its answer.
-use lines::contexts;
-use lines::contexts::Handed;
-use lines::contexts::Went;
-use lines::effects;
-use lines::output;
-use lines::within;
-use lines::words;
-use lines::words::Decoded;
-use settling::Resolved;
+use replay_lines::contexts;
+use replay_lines::contexts::Handed;
+use replay_lines::contexts::Went;
+use replay_lines::effects;
+use replay_lines::output;
+use replay_lines::within;
+use replay_lines::words;
+use replay_lines::words::Decoded;
+use resolve_settling::Resolved;
 
 // How many bytes of ground text, effects, notes and numbers to work with are lent.
 struct Lent {
@@ -39,7 +39,7 @@ fn resolve_lent(
     let e = within::effects(lent.effects, effects);
     let n = within::notes(lent.notes, notes);
     let w = within::numbers(lent.work, work);
-    resolve::resolve_under(
+    resolve_call::resolve_under(
         text,
         block,
         lists,
@@ -128,7 +128,7 @@ fn read_lent(line: &[u8], end: usize) -> Lending {
             ground: 16384,
             effects: 2048,
             notes: 257,
-            work: resolve::WORKING,
+            work: resolve_call::WORKING,
         });
     }
     let mut lengths = [0; 4];

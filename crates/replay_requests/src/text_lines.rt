@@ -1,10 +1,10 @@
 // What is asked about a text alone, and the answer: its tokens, Count, Statement, Print and the profile.
-use lines::lexed;
-use lines::output;
-use profile::Profiled;
-use render::Printed;
-use statements::CountRead;
-use statements::StatementAt;
+use print_render::Printed;
+use read_profile::Profiled;
+use read_statements::CountRead;
+use read_statements::StatementAt;
+use replay_lines::lexed;
+use replay_lines::output;
 
 // What is asked about a text; `PrintIn` has the bytes of the output.
 pub enum Asked {
@@ -17,7 +17,7 @@ pub enum Asked {
 }
 
 fn answer_count(text: &[u8], ceiling: u32, out: &mut [u8], len: usize) -> usize {
-    match statements::count_under(text, ceiling) {
+    match read_statements::count_under(text, ceiling) {
         CountRead::Count(count) => {
             let n = output::put_all(out, len, b"ok");
             output::put_number(out, n, count)
@@ -27,19 +27,19 @@ fn answer_count(text: &[u8], ceiling: u32, out: &mut [u8], len: usize) -> usize 
 }
 
 fn answer_statement(text: &[u8], index: usize, ceiling: u32, out: &mut [u8], len: usize) -> usize {
-    let value = values::value_under(text, index, ceiling);
+    let value = read_values::value_under(text, index, ceiling);
     let found = value.found;
     match found {
         StatementAt::Statement(statement) => {
             let n = output::put_all(out, len, b"ok");
-            statement_lines::put_statement(out, n, value, statement)
+            replay_statements::put_statement(out, n, value, statement)
         }
         StatementAt::Refused(r) => output::refused(out, len, r.number as usize, r.place),
     }
 }
 
 fn answer_profile(text: &[u8], ceiling: u32, out: &mut [u8], len: usize) -> usize {
-    match profile::profile_under(text, ceiling) {
+    match read_profile::profile_under(text, ceiling) {
         Profiled::Fits => output::put_all(out, len, b"ok"),
         Profiled::Refused(r) => output::refused(out, len, r.number as usize, r.place),
     }
@@ -57,7 +57,7 @@ fn put_canonical(out: &mut [u8], len: usize, page: &[u8], length: usize, empty: 
 // Print into so many bytes of the page. It is larger than any canonical text, so where it has fewer than are asked for the answer is the same.
 fn print_in(text: &[u8], page: &mut [u8], room: usize, ceiling: u32) -> Printed {
     let n = output::within(room, page);
-    render::print_under(text, &mut page[..n], ceiling)
+    print_render::print_under(text, &mut page[..n], ceiling)
 }
 
 fn answer_print(

@@ -1,7 +1,7 @@
 // What an operand of a text stands for in a context, for messages: the text's LETs and a COVARIATE? that has the operand are resolved by
 // themselves. So what a message says of an operand is what Resolve says of it.
 pub use crate::lets::put_lets;
-use settling::Resolved;
+use resolve_settling::Resolved;
 use show_contexts::context_names;
 use show_pages::pages;
 
@@ -80,7 +80,7 @@ fn resolve_probe(
     let mut notes = [[0; 2]; 512];
     let mut work = [0; 8192];
     let n = pages::within(len, probe);
-    match resolve::resolve(
+    match resolve_call::resolve(
         &probe[..n],
         block,
         lists,

@@ -2,7 +2,7 @@
 use mathlib.Core.Path.{_∙_, ap, sym, subst}
 use denote.Ref.{now}
 use borrow.Author.Needs.{needs}
-use Rattle.statements.specs.Answers.{countAs}
+use Rattle.read_statements.specs.Answers.{countAs}
 use Rattle.dumachik.specs.Word.{word, Below}
 use Rattle.dumachik.proofs.Below.{count-below}
 use Rattle.dumachik.proofs.mfl_count.Statement.{statement}

@@ -3,7 +3,7 @@ use mathlib.Core.Path.{_∙_, ap, sym, subst}
 use lib.ListN.{length}
 use denote.Ref.{now}
 use borrow.Author.Needs.{needs}
-use Rattle.render.specs.Text.{printedAs}
+use Rattle.print_render.specs.Text.{printedAs}
 use Rattle.dumachik.specs.Word.{word, Below}
 use Rattle.dumachik.proofs.Below.{print-below}
 use Rattle.dumachik.proofs.mfl_print.Statement.{statement}

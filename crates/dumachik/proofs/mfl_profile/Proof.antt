@@ -5,7 +5,7 @@ use denote.Ref.{now}
 use borrow.Author.Needs.{needs}
 use Rattle.reading.specs.Answer.{Answer}
 use Rattle.profiling.specs.Profile.{Yes}
-use Rattle.profile.specs.Answers.{profiledAs}
+use Rattle.read_profile.specs.Answers.{profiledAs}
 use Rattle.dumachik.specs.Word.{word, yesAsZero, Below}
 use Rattle.dumachik.proofs.Below.{profile-below}
 use Rattle.dumachik.proofs.mfl_profile.Statement.{statement}

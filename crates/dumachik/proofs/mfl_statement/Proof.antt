@@ -4,7 +4,7 @@ use native.Mathlib.Omega.{arith}
 use lib.ListN.{length}
 use denote.Ref.{now}
 use borrow.Author.Needs.{needs}
-use Rattle.statement_numbers.specs.Answers.{numbersAs}
+use Rattle.numbers_statement.specs.Answers.{numbersAs}
 use Rattle.dumachik.specs.Word.{word, Below}
 use Rattle.dumachik.proofs.Below.{statement-below}
 use Rattle.dumachik.proofs.mfl_statement.Statement.{statement}

@@ -3,7 +3,7 @@ use mathlib.Core.Path.{_∙_, ap, sym, subst}
 use lib.ListN.{length}
 use denote.Ref.{now}
 use borrow.Author.Needs.{needs}
-use Rattle.statement_numbers.specs.Answers.{numbersAs}
+use Rattle.numbers_statement.specs.Answers.{numbersAs}
 use Rattle.dumachik.specs.Word.{word, Below}
 use Rattle.dumachik.proofs.Below.{statements-below}
 use Rattle.dumachik.proofs.mfl_statements.Statement.{statement}

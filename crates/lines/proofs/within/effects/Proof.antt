@@ -1,8 +1,0 @@
--- `lines::within::effects` meets its contract: the smaller of two numbers counts entries. Assumes nothing.
-use native.Mathlib.Omega.{arith}
-use Rattle.lines.proofs.Counting.{counted}
-use Rattle.lines.proofs.within.effects.Statement.{statement}
-use Rattle.lines.proofs.within.effects.Tie as tie
-
-pub effects-spec : {M : Type 1} → statement M
-effects-spec = tie.close (tie.spec (λ c. counted _ _ (omega arith)) (λ c. counted _ _ (omega arith)))

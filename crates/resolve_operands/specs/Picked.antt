@@ -1,0 +1,28 @@
+-- Indexes that an array holds: each once, in the order in which they came.
+use Prim.Native.Nat.{ℕ, _≤_, _<_}
+use mathlib.Core.Path.{_≡_}
+use mathlib.Core.Bool.{Bool, cond}
+use mathlib.Core.List.{List, [], _∷_, _++_}
+use lib.Dec.{eqb}
+use lib.ListN.{length, take, getD}
+use Rattle.resolving.specs.Lists.{any}
+use Rattle.resolve_operands.specs.declared.Entries.{Entries}
+
+-- an index stands among others
+abbrev pub standsIn : List ℕ → ℕ → Bool
+standsIn is i = any (λ j. eqb j i) is
+
+-- one index more, unless it stands there already
+abbrev pub withIndex : List ℕ → ℕ → List ℕ
+withIndex is i = is ++ cond (standsIn is i) [] (i ∷ [])
+
+-- indexes of a list with so many entries, no more than 64
+pub record Indexes (n : ℕ) (is : List ℕ) : Type 0 where
+  pub few : length is ≤ 64
+  pub below : (k : ℕ) → k < length is → getD is k 0 < n
+
+-- what stands in the array that was lent: as many indexes as are answered, of a list with so many entries
+pub record PickedAs (n : ℕ) (r : Entries) (is : List ℕ) : Type 0 where
+  pub size : length is ≡ 64
+  pub few : r .count ≤ 64
+  pub indexes : Indexes n (take (r .count) is)

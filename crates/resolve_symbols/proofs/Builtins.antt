@@ -1,0 +1,92 @@
+-- The built-ins: what a word's answer means, where what it is chosen from does. A template or a block that is missing makes one unknown.
+-- Assumes nothing.
+use mathlib.Core.Path.{_≡_, refl, _∙_, sym, subst}
+use mathlib.Core.Bool.{Bool, true, false, cond}
+use mathlib.Core.List.{List, []}
+use mathlib.Core.Option.{Option, some, none, Option·map}
+use Prim.Native.Nat.{ℕ}
+use Rattle.resolving.specs.Lists.{keep}
+use Rattle.resolving.specs.Context.{Context}
+use Rattle.resolving.specs.Builtins.{everyRole, templated, declared}
+use Rattle.resolving.specs.Given.{kindOf}
+use Rattle.resolve_context.specs.declared.Layout.{Layout}
+use Rattle.resolve_symbols.specs.declared.Roles.{Roles}
+use Rattle.resolve_symbols.specs.declared.Source.{Source}
+use Rattle.resolve_symbols.specs.declared.Source.the-variants.{Iiv, Template, TemplateIiv, Nothing, Declared}
+use Rattle.resolve_symbols.specs.declared.Looked.{Looked}
+use Rattle.resolve_symbols.specs.declared.Looked.the-variants.{Names, Unknown}
+use Rattle.resolve_symbols.specs.Sources.{
+  ofRoles,
+  orNone,
+  isSome,
+  amongIiv,
+  sourceList,
+  lookedAs,
+  SourceFits,
+  LookedFits,
+  Marked,
+  MeansAnywhere,
+}
+
+abbrev Wanted : Type 0
+Wanted = Context → Option (List (List ℕ))
+
+-- a test chooses between two answers
+pub chosen : {y : Layout} (t : Bool) {a b r : Looked} {f g : Wanted}
+    → r ≡ cond t a b → MeansAnywhere y a f → MeansAnywhere y b g → MeansAnywhere y r (λ c. cond t (f c) (g c))
+chosen {y} t {a} {b} {r} {f} {g} e p q = subst (λ (x : Looked). MeansAnywhere y x (λ c. cond t (f c) (g c))) (sym e) (by-test t)
+  where
+    by-test : (u : Bool) → MeansAnywhere y (cond u a b) (λ c. cond u (f c) (g c))
+    by-test true = p
+    by-test false = q
+
+pub unknown : {y : Layout} → MeansAnywhere y Unknown (λ c. none)
+unknown = record { fits = λ s. tt; means = λ s c m. refl }
+
+pub is-iiv : {y : Layout} → MeansAnywhere y (Names Iiv) (λ c. some (c .iiv))
+is-iiv = record { fits = λ s. tt; means = λ s c m. refl }
+
+pub is-nothing : {y : Layout} → MeansAnywhere y (Names Nothing) (λ c. some [])
+is-nothing = record { fits = λ s. tt; means = λ s c m. refl }
+
+-- a source whose template or block may be missing
+if-marked : {y : Layout} (t : Bool) (x : Source) {r : Looked} (f : Wanted)
+    → r ≡ cond t (Names x) Unknown
+    → ((s : List ℕ) → SourceFits s x)
+    → ((s : List ℕ) (c : Context) → Marked c y → cond t (some (sourceList c s x)) none ≡ f c)
+    → MeansAnywhere y r f
+if-marked {y} t x {r} f e h g =
+    subst (λ (q : Looked). MeansAnywhere y q f) (sym e)
+    (record { fits = λ s. fits s t; means = λ s c m. looked s c t ∙ g s c m })
+  where
+    fits : (s : List ℕ) (u : Bool) → LookedFits s (cond u (Names x) Unknown)
+    fits s true = h s
+    fits s false = tt
+
+    looked : (s : List ℕ) (c : Context) (u : Bool) → lookedAs c s (cond u (Names x) Unknown) ≡ cond u (some (sourceList c s x)) none
+    looked s c true = refl
+    looked s c false = refl
+
+some-or : {A : Type 0} (g : A → List (List ℕ)) (o : Option A) → cond (isSome o) (some (orNone (Option·map g o))) none ≡ Option·map g o
+some-or g none = refl
+some-or g (some a) = refl
+
+kept-or : {A : Type 0} (h : List (List ℕ) → List (List ℕ)) (g : A → List (List ℕ)) (o : Option A)
+    → cond (isSome o) (some (h (orNone (Option·map g o)))) none ≡ Option·map h (Option·map g o)
+kept-or h g none = refl
+kept-or h g (some a) = refl
+
+module _ {y : Layout} where
+  pub of-template : (q : Roles) → MeansAnywhere y (cond (y .templated) (Names (Template q)) Unknown) (λ c. templated c (ofRoles q))
+  of-template q =
+      if-marked (y .templated) (Template q) (λ c. templated c (ofRoles q)) refl (λ s. tt)
+      (λ s c m. rw (m .templated) (some-or _ (c .template)))
+
+  pub of-template-iiv :
+      MeansAnywhere y (cond (y .templated) (Names TemplateIiv) Unknown) (λ c. Option·map (keep (amongIiv c)) (templated c everyRole))
+  of-template-iiv =
+      if-marked (y .templated) TemplateIiv (λ c. Option·map (keep (amongIiv c)) (templated c everyRole)) refl (λ s. tt)
+      (λ s c m. rw (m .templated) (kept-or (keep (amongIiv c)) _ (c .template)))
+
+  pub of-block : (k : ℕ) → MeansAnywhere y (cond (y .declares) (Names (Declared k)) Unknown) (λ c. declared c (kindOf k))
+  of-block k = if-marked (y .declares) (Declared k) (λ c. declared c (kindOf k)) refl (λ s. tt) (λ s c m. rw (m .declares) (some-or _ (c .block)))

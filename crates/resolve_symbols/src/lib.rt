@@ -1,0 +1,354 @@
+// What a symbol stands for. "A symbol is looked up among the LETs, then among the built-ins of `builtin`, ignoring ASCII case." What is found
+// is a source of names; each of its names is a pair into the text or into the context's block before it becomes an index (`operands`).
+ghost use mathlib.Core.Path.{_≡_};
+ghost use mathlib.Core.Bool.{cond};
+ghost use mathlib.Core.List.{map};
+ghost use mathlib.Core.Option.{some};
+ghost use Prim.Native.Nat.{_+_, _*_, _≤_, _<_, min};
+ghost use lib.ListN.{length};
+ghost use lib.Dec.{eqb};
+ghost use Rattle.labels.specs.Word.{sameWord};
+ghost use Rattle.resolving.specs.Lists.{any, keep, sameBytes};
+ghost use Rattle.resolving.specs.Context.{kindNumber};
+ghost use Rattle.resolving.specs.Builtins as builtins;
+ghost use Rattle.resolving.specs.Builtins.{absorptionRoles, distributionRoles};
+ghost use Rattle.resolving.specs.Given.{kindOf};
+ghost use Rattle.resolving.specs.Symbols.{definition, lookUp};
+ghost use Rattle.read_forms.specs.Items.{nameIn, itemsIn};
+ghost use Rattle.read_forms.specs.Fits.{InText, Listed};
+ghost use Rattle.resolve_context.specs.Lists.{Stands, foundAs, listAt};
+ghost use Rattle.resolve_symbols.specs.Lets.{keyAt, valuesAt, definitionAt, definitionsIn, lastLet, hasKey, LetsFit, LetPut};
+ghost use Rattle.resolve_symbols.specs.Sources.{roleOf, sourceList, SourceFits, LookedFits, Means, MeansAnywhere};
+ghost use Rattle.resolve_symbols.specs.Brings.{listOf, isIiv, brings, broughtBy, broughtAs, BroughtFits, Yields};
+use read_forms::Items;
+use read_forms::Name;
+use resolve_context::Found;
+use resolve_context::Layout;
+use resolve_context::Names;
+use resolve_context::name_at;
+use resolve_context::pair_at;
+use resolve_context::same_bytes;
+use tokens::Cursor;
+
+// The roles of a template that a built-in takes.
+pub enum Roles {
+    Every,
+    Absorption,
+    Elimination,
+    Distribution,
+    Bioavail,
+}
+
+// What an operand or a symbol stands for: the values of a LET, or names of the context. A declared covariate's kind is a number, 0 continuous
+// or 1 categorical.
+pub enum Source {
+    Values(Items),
+    Iiv,
+    Template(Roles),
+    TemplateIiv,
+    Nothing,
+    Declared(u32),
+    Covariates,
+}
+
+pub enum Looked {
+    Names(Source),
+    Unknown,
+}
+
+// What an entry of a list brings: a name of the block, or none.
+pub enum Brought {
+    Pair(Name),
+    Nothing,
+}
+
+// The lesser of two numbers.
+fn least(a: usize, b: usize) -> usize
+    ensures { λ r. ⌜ r ≡ min a b ⌝ }
+{
+    if b < a {
+        return b;
+    }
+    a
+}
+
+// Puts a LET behind the first n.
+pub fn put_let(text: &[u8], lets: &mut [u32], n: usize, name: Name, values: Items)
+    requires { ⌜ LetsFit (now text) (now lets) n × (n < 256) × (4 * (n + 1) ≤ length (now lets))
+        × (length (now text) ≤ 16384) × InText (now text) name × Listed (now text) values ⌝ }
+    ensures { λ r. ⌜ LetPut (now (text .entry)) (now (lets .entry)) (now (lets .exit)) n
+        (definition (nameIn (now (text .entry)) name) (itemsIn (now (text .entry)) values)) ⌝ }
+{
+    let first = values.first;
+    let cursor = least(first.at, text.len());
+    let at = 4 * n;
+    lets[at] = name.offset as u32;
+    lets[at + 1] = name.length as u32;
+    lets[at + 2] = cursor as u32;
+    lets[at + 3] = values.count as u32;
+}
+
+// The key of a LET, as a part of the text.
+fn key_at<'a>(text: &'a [u8], lets: &[u32], k: usize) -> &'a [u8]
+    requires { ⌜ (4 * (k + 1) ≤ length (now lets)) × InText (now text) (keyAt (now lets) k) ⌝ }
+    ensures { λ r. ⌜ now r ≡ definitionAt (now (text .entry)) (now (lets .entry)) k .key ⌝ }
+{
+    let start = lets[4 * k] as usize;
+    let end = start + lets[4 * k + 1] as usize;
+    &text[start..end]
+}
+
+// The values of a LET.
+fn values_at(lets: &[u32], k: usize) -> Items
+    requires { ⌜ 4 * (k + 1) ≤ length (now lets) ⌝ }
+    ensures { λ r. ⌜ r ≡ valuesAt (now (lets .entry)) k ⌝ }
+{
+    let at = lets[4 * k + 2] as usize;
+    let count = lets[4 * k + 3] as usize;
+    Items {
+        first: Cursor { at },
+        count,
+    }
+}
+
+// A name's bytes, as a part of the text.
+pub fn spelling(text: &[u8], name: Name) -> &[u8]
+    requires { ⌜ InText (now text) name ⌝ }
+    ensures { λ r. ⌜ now r ≡ nameIn (now (text .entry)) name .spelling ⌝ }
+{
+    let start = name.offset;
+    let end = start + name.length;
+    &text[start..end]
+}
+
+// The last of the first n LETs whose key the word is, ignoring case.
+fn find_let(text: &[u8], lets: &[u32], n: usize, word: &[u8]) -> Found
+    requires { ⌜ LetsFit (now text) (now lets) n ⌝ }
+    ensures { λ r. ⌜ r ≡ foundAs (lastLet (now (text .entry)) (now (lets .entry)) n (now (word .entry))) ⌝ }
+{
+    let mut left = n;
+    while 0 < left {
+        left -= 1;
+        if labels::same_word(word, key_at(text, lets, left)) {
+            return Found::Place(left);
+        }
+    }
+    Found::Nothing
+}
+
+// Whether one of the first n LETs has the key, ignoring case.
+pub fn has_let(text: &[u8], lets: &[u32], n: usize, key: Name) -> bool
+    requires { ⌜ LetsFit (now text) (now lets) n × InText (now text) key ⌝ }
+    ensures { λ r. ⌜ r ≡ hasKey (definitionsIn (now (text .entry)) (now (lets .entry)) n) (nameIn (now (text .entry)) key .spelling) ⌝ }
+{
+    match find_let(text, lets, n, spelling(text, key)) {
+        Found::Place(k) => true,
+        Found::Nothing => false,
+    }
+}
+
+// A built-in of this name, if what it needs is there; for any other word, the other answer.
+fn if_word(word: &[u8], name: &[u8], there: bool, source: Source, other: Looked) -> Looked
+    ensures { λ r. ⌜ r ≡ cond (sameWord (now (word .entry)) (now (name .entry))) (cond there (Looked.Names source) Looked.Unknown) other ⌝ }
+{
+    if !labels::same_word(word, name) {
+        return other;
+    }
+    if there {
+        return Looked::Names(source);
+    }
+    Looked::Unknown
+}
+
+// A built-in by its name. The tests are made from the last to the first, as no two names are the same.
+fn builtin(layout: Layout, word: &[u8]) -> Looked
+    ensures { λ r. ⌜ MeansAnywhere layout r (λ c. builtins.builtin c (now (word .entry))) ⌝ }
+{
+    let block = layout.declares;
+    let template = layout.templated;
+    let r = Looked::Unknown;
+    let r = if_word(word, b"CATEGORICAL", block, Source::Declared(1), r);
+    let r = if_word(word, b"CONTINUOUS", block, Source::Declared(0), r);
+    let r = if_word(
+        word,
+        b"BIOAVAIL",
+        template,
+        Source::Template(Roles::Bioavail),
+        r,
+    );
+    let r = if_word(
+        word,
+        b"DISTRIBUTION",
+        template,
+        Source::Template(Roles::Distribution),
+        r,
+    );
+    let r = if_word(
+        word,
+        b"ELIMINATION",
+        template,
+        Source::Template(Roles::Elimination),
+        r,
+    );
+    let r = if_word(
+        word,
+        b"ABSORPTION",
+        template,
+        Source::Template(Roles::Absorption),
+        r,
+    );
+    let r = if_word(word, b"PD_IIV", true, Source::Nothing, r);
+    let r = if_word(word, b"PD", true, Source::Nothing, r);
+    let r = if_word(word, b"PK_IIV", template, Source::TemplateIiv, r);
+    let r = if_word(word, b"PK", template, Source::Template(Roles::Every), r);
+    if_word(word, b"IIV", true, Source::Iiv, r)
+}
+
+// What a symbol stands for: the last LET of that key, or the built-in.
+pub fn look_up(text: &[u8], lets: &[u32], n: usize, layout: Layout, word: &[u8]) -> Looked
+    requires { ⌜ LetsFit (now text) (now lets) n ⌝ }
+    ensures { λ r. ⌜ LookedFits (now (text .entry)) r × Means (now (text .entry)) layout r
+        (λ c. lookUp c (map some (definitionsIn (now (text .entry)) (now (lets .entry)) n)) (now (word .entry))) ⌝ }
+{
+    let Found::Place(k) = find_let(text, lets, n, word) else {
+        return builtin(layout, word);
+    };
+    Looked::Names(Source::Values(values_at(lets, k)))
+}
+
+// Whether a role is one of a built-in's. Roles are equal byte for byte.
+fn is_absorption(role: &[u8]) -> bool
+    ensures { λ r. ⌜ r ≡ any (sameBytes (now (role .entry))) absorptionRoles ⌝ }
+{
+    same_bytes(role, b"ka")
+        | same_bytes(role, b"n")
+        | same_bytes(role, b"mtt")
+        | same_bytes(role, b"mat")
+        | same_bytes(role, b"cv2")
+        | same_bytes(role, b"lagtime")
+        | same_bytes(role, b"alag")
+        | same_bytes(role, b"tlag")
+}
+
+fn is_distribution(role: &[u8]) -> bool
+    ensures { λ r. ⌜ r ≡ any (sameBytes (now (role .entry))) distributionRoles ⌝ }
+{
+    same_bytes(role, b"v")
+        | same_bytes(role, b"v1")
+        | same_bytes(role, b"v2")
+        | same_bytes(role, b"v3")
+        | same_bytes(role, b"q")
+        | same_bytes(role, b"q2")
+        | same_bytes(role, b"q3")
+}
+
+fn has_role(roles: Roles, role: &[u8]) -> bool
+    ensures { λ r. ⌜ r ≡ roleOf roles (now (role .entry)) ⌝ }
+{
+    match roles {
+        Roles::Every => true,
+        Roles::Absorption => is_absorption(role),
+        Roles::Elimination => same_bytes(role, b"cl"),
+        Roles::Distribution => is_distribution(role),
+        Roles::Bioavail => same_bytes(role, b"f"),
+    }
+}
+
+fn same_kind(one: u32, other: u32) -> bool
+    ensures { λ r. ⌜ r ≡ eqb (kindNumber (kindOf one)) (kindNumber (kindOf other)) ⌝ }
+{
+    (one == 0) == (other == 0)
+}
+
+// The parameter that a variable of the template matches, if its role is one of these.
+fn of_template(block: &[u8], lists: &[u32], layout: Layout, roles: Roles, index: usize) -> Brought
+    requires { ⌜ Stands (now block) (now lists) layout × (index < layout .template .count) ⌝ }
+    ensures { λ r. ⌜ Yields (now (block .entry)) (brings (now (block .entry)) (now (lists .entry)) layout (Source.Template roles) index) r ⌝ }
+{
+    let template = layout.template;
+    let role = name_at(block, lists, template, index);
+    if !has_role(roles, role) {
+        return Brought::Nothing;
+    }
+    let variable = name_at(block, lists, resolve_context::variables_of(template), index);
+    let parameters = layout.parameters;
+    match resolve_context::match_of(block, lists, parameters, variable) {
+        Found::Place(place) => Brought::Pair(pair_at(block, lists, parameters, place)),
+        Found::Nothing => Brought::Nothing,
+    }
+}
+
+// What is brought, if it is an IIV parameter.
+fn if_iiv(block: &[u8], lists: &[u32], layout: Layout, brought: Brought) -> Brought
+    requires { ⌜ Stands (now block) (now lists) layout × BroughtFits (now block) brought ⌝ }
+    ensures { λ r. ⌜ Yields (now (block .entry))
+        (keep (isIiv (now (block .entry)) (now (lists .entry)) layout) (broughtAs (now (block .entry)) brought)) r ⌝ }
+{
+    let Brought::Pair(name) = brought else {
+        return Brought::Nothing;
+    };
+    match resolve_context::index_of(block, lists, layout.iiv, spelling(block, name)) {
+        Found::Place(place) => Brought::Pair(name),
+        Found::Nothing => Brought::Nothing,
+    }
+}
+
+// A declared covariate, if it is of the kind.
+fn of_kind(block: &[u8], lists: &[u32], layout: Layout, kind: u32, index: usize) -> Brought
+    requires { ⌜ Stands (now block) (now lists) layout × (index < layout .declared .count) ⌝ }
+    ensures { λ r. ⌜ Yields (now (block .entry)) (brings (now (block .entry)) (now (lists .entry)) layout (Source.Declared kind) index) r ⌝ }
+{
+    let declared = layout.declared;
+    if same_kind(kind, resolve_context::kind_at(lists, declared, index)) {
+        return Brought::Pair(pair_at(block, lists, declared, index));
+    }
+    Brought::Nothing
+}
+
+// A list with no entries.
+fn no_list() -> Names
+    ensures { λ r. ⌜ r ≡ listAt 0 0 2 ⌝ }
+{
+    Names {
+        start: 0,
+        count: 0,
+        step: 2,
+    }
+}
+
+// The list whose entries a source takes.
+pub fn list_of(layout: Layout, source: Source) -> Names
+    ensures { λ r. ⌜ r ≡ listOf layout source ⌝ }
+{
+    match source {
+        Source::Values(items) => no_list(),
+        Source::Iiv => layout.iiv,
+        Source::Template(roles) => layout.template,
+        Source::TemplateIiv => layout.template,
+        Source::Nothing => no_list(),
+        Source::Declared(kind) => layout.declared,
+        Source::Covariates => resolve_context::covariates(layout),
+    }
+}
+
+// What an entry of the source's list brings.
+pub fn bring(block: &[u8], lists: &[u32], layout: Layout, source: Source, index: usize) -> Brought
+    requires { ⌜ Stands (now block) (now lists) layout × (index < listOf layout source .count) ⌝ }
+    ensures { λ r. ⌜ Yields (now (block .entry)) (brings (now (block .entry)) (now (lists .entry)) layout source index) r ⌝ }
+{
+    match source {
+        Source::Values(items) => Brought::Nothing,
+        Source::Iiv => Brought::Pair(pair_at(block, lists, layout.iiv, index)),
+        Source::Template(roles) => of_template(block, lists, layout, roles, index),
+        Source::TemplateIiv => {
+            let brought = of_template(block, lists, layout, Roles::Every, index);
+            if_iiv(block, lists, layout, brought)
+        }
+        Source::Nothing => Brought::Nothing,
+        Source::Declared(kind) => of_kind(block, lists, layout, kind, index),
+        Source::Covariates => {
+            let names = resolve_context::covariates(layout);
+            Brought::Pair(pair_at(block, lists, names, index))
+        }
+    }
+}

@@ -1,0 +1,32 @@
+-- `show_input::write_all` is safe and ends. The measure is the number of turns that are left, and what was written is a part of the bytes. Assumes nothing.
+use Prim.Native.Nat.{_≤_}
+use lib.ListN.{length}
+use borrow.Author.Needs.{needs}
+use Rattle.show_input.proofs.write_all.Statement.{statement}
+use Rattle.show_input.proofs.write_all.Tie as tie
+
+abbrev Inv-loop : tie.InvT-loop
+Inv-loop fd bytes at₀ turns₀ at turns = (at ≤ length bytes)
+
+abbrev μ-loop : tie.MeasureT-loop
+μ-loop fd bytes at₀ turns₀ at turns = turns
+
+pub write-all-spec : {M : Type 1} → statement M
+write-all-spec =
+    tie.close
+    (tie.spec
+    Inv-loop
+    μ-loop
+    (λ c. search needs)
+    (λ c. search needs)
+    (λ c. search needs)
+    (λ c. search needs)
+    (λ c. search needs)
+    (λ c κs. search needs)
+    (λ c. search needs)
+    (λ c. search needs)
+    (λ c. search needs)
+    (λ c. search needs)
+    (λ c. search needs)
+    (λ c. search needs)
+    (λ c. search needs))
