@@ -1,3 +1,4 @@
 pub mod Canonical
 pub mod Numbers
 pub mod Print
+pub mod Lines

@@ -1,11 +1,11 @@
 -- Document 01, The calls offered: "Print: a text gives its canonical text." And Faults, 19: "an output shorter than its answer".
 use Prim.Native.Nat.{ℕ}
-use mathlib.Core.Bool.{cond}
 use mathlib.Core.List.{List, _++_}
+use mathlib.Core.Path.{_≡_}
 use lib.Dec.{ltb}
 use lib.ListN.{length, drop}
 use Rattle.reading.specs.Statement.{Statement}
-use Rattle.reading.specs.Answer.{Answer, accepted, refused}
+use Rattle.reading.specs.Answer.{Answer, accepted, refused, refusedIf}
 use Rattle.reading.specs.Read.{readText}
 use Rattle.canonical.specs.Canonical.{canonical}
 
@@ -19,7 +19,7 @@ printText limit text = printed (readText limit text)
 
 -- an answer that an output has room for
 abbrev pub fitting : ℕ → Answer (List ℕ) → Answer (List ℕ)
-fitting room (accepted bs) = cond (ltb room (length bs)) (refused 19 0) (accepted bs)
+fitting room (accepted bs) = refusedIf (ltb room (length bs)) 19 0 (accepted bs)
 fitting room (refused n p) = refused n p
 
 -- how long an answer is
@@ -31,3 +31,8 @@ lengthOf (refused n p) = refused n p
 abbrev pub output : Answer (List ℕ) → List ℕ → List ℕ
 output (accepted bs) before = bs ++ drop (length bs) before
 output (refused n p) before = before
+
+-- What a call answers that fills an output, and the output afterwards.
+pub record Answers (a : Answer (List ℕ)) (before after : List ℕ) (r : Answer ℕ) : Type 0 where
+  pub told : r ≡ lengthOf (fitting (length before) a)
+  pub left : after ≡ output (fitting (length before) a) before

@@ -7,8 +7,8 @@ use mathlib.Core.Bool.{true, false, false≢true}
 use mathlib.Core.List.{List, [], _∷_, map}
 use borrow.Author.Tests.{leb-true, le-leb, le-ltb}
 use lib.Dec.{leb}
-use Rattle.token_laws.specs.Shaped.{all}
-use Rattle.token_laws.proofs.Tests.{and-left, and-right}
+use Rattle.text.specs.Lists.{all}
+use Rattle.text.proofs.Tests.{and-left, and-right, both}
 use Rattle.counts.specs.Decimal.{digitsOf}
 use Rattle.counts.proofs.Decimal.{countOf-digitsOf}
 use Rattle.reading.specs.Statement.{aNumber, Item, Counts, count, counts}
@@ -18,7 +18,6 @@ use Rattle.reading.specs.Argument.{single, range, array, countAt, rangeOf, coun
 use Rattle.reading.specs.Feature.{isN}
 use Rattle.reading.specs.Syntax.{name, itemAs}
 use Rattle.reading_laws.specs.WellFormed.{oneTo64, withinLimit, wellRange, wellCounts}
-use Rattle.reading_laws.proofs.Tests.{both}
 use Rattle.canonical.specs.Canonical.{countShape, countsShapes}
 use Rattle.canonical_laws.specs.Printed.{Entry, numberEntry, Again}
 use Rattle.canonical_laws.proofs.Spelling.{digits-number, digits-no-n}

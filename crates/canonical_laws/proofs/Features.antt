@@ -8,7 +8,7 @@ use mathlib.Core.Option.{some, none}
 use Rattle.text.specs.Bytes.{bytes}
 use Rattle.tokens.specs.Class.{classOf}
 use Rattle.tokens.specs.Token.{Shape}
-use Rattle.token_laws.proofs.Tests.{and-left, and-right}
+use Rattle.text.proofs.Tests.{and-left, and-right}
 use Rattle.labels.specs.declared.Family.the-variants.{
   AbsorptionMode,
   EliminationMode,
@@ -57,7 +57,7 @@ use Rattle.reading.specs.Feature.{keywordOf, transitsOf, explicit, operatorOf, 
 use Rattle.reading.specs.Syntax.{name, itemAs}
 use Rattle.reading_laws.specs.Moved.{moveFeature}
 use Rattle.reading_laws.specs.WellFormed.{spelledAs, wellPart, wellParts, wellEffects, wellTogether, wellFeature}
-use Rattle.reading_laws.proofs.Tests.{Passing, all-passing}
+use Rattle.text.proofs.Passing.{Passing, all-passing}
 use Rattle.canonical.specs.Canonical.{wordOf, partsShapes, keywordAt}
 use Rattle.canonical_laws.specs.Forgotten.{nowhere}
 use Rattle.canonical_laws.specs.Printed.{wordEntry, startsFeature, Again, lastly, before, PrintedCall}

@@ -8,8 +8,8 @@ use borrow.Author.Tests.{leb-true}
 use lib.Dec.{leb}
 use lib.ListN.{length, length-map}
 use Rattle.tokens.specs.Token.{Shape}
-use Rattle.token_laws.specs.Shaped.{all}
-use Rattle.token_laws.proofs.Tests.{and-left, and-right}
+use Rattle.text.specs.Lists.{all}
+use Rattle.text.proofs.Tests.{and-left, and-right}
 use Rattle.reading.specs.Statement.{Item}
 use Rattle.reading.specs.Argument.{array}
 use Rattle.reading_laws.specs.WellFormed.{oneTo64}

@@ -8,8 +8,8 @@ use mathlib.Core.Option.{some}
 use borrow.Author.Tests.{ltb-true}
 use lib.Dec.{eqb}
 use lib.ListN.{length, getD}
-use Rattle.token_laws.specs.Shaped.{all}
-use Rattle.token_laws.proofs.Tests.{and-left, and-right}
+use Rattle.text.specs.Lists.{all}
+use Rattle.text.proofs.Tests.{and-left, and-right}
 use Rattle.token_laws.proofs.Labels.{label-word}
 use Rattle.labels.specs.declared.Family.{Family}
 use Rattle.labels.specs.Word.{find}

@@ -10,8 +10,8 @@ use mathlib.Core.Option.{some, none}
 use borrow.Author.Tests.{leb-true, ltb-true, le-leb}
 use lib.Dec.{leb}
 use lib.ListN.{length, length-append}
-use Rattle.token_laws.specs.Shaped.{all}
-use Rattle.token_laws.proofs.Tests.{and-left, and-right}
+use Rattle.text.specs.Lists.{all}
+use Rattle.text.proofs.Tests.{and-left, and-right, both}
 use Rattle.labels.specs.declared.Family.{Family}
 use Rattle.labels.specs.Label.{labelsOf}
 use Rattle.reading.specs.Statement.{
@@ -83,7 +83,7 @@ use Rattle.reading_laws.specs.WellFormed.{
   wellFormed,
 }
 use Rattle.reading_laws.specs.Spelled.{itemNames, operandNames, partNames, partsNames, statementNames, textNames, StandIn, noName, oneThen}
-use Rattle.reading_laws.proofs.Tests.{both, all-append, all-weaker}
+use Rattle.text.proofs.Passing.{all-append, all-weaker}
 use Rattle.reading_laws.proofs.Places.{few-places}
 use Rattle.reading_laws.proofs.Parts.{few-labels, parts-well}
 use Rattle.reading_laws.proofs.WellRead.{text-well-formed}

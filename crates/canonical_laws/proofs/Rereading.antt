@@ -9,7 +9,7 @@ use mathlib.Core.List.{List, map}
 use lib.ListN.{length}
 use Rattle.tokens.specs.Token.{Tokens}
 use Rattle.tokens.specs.Lex.{tokens}
-use Rattle.token_laws.specs.Shaped.{all}
+use Rattle.text.specs.Lists.{all}
 use Rattle.token_laws.proofs.Spelled.{tokens-spelled}
 use Rattle.reading.specs.Statement.{Statement}
 use Rattle.reading.specs.Answer.{Answer, accepted, refused}
@@ -19,7 +19,7 @@ use Rattle.reading_laws.specs.Moved.{moveRead, moveTokens}
 use Rattle.reading_laws.specs.Reads.{Reads, over, overEnded, passed, passedEnded, begun, carried, completed}
 use Rattle.reading_laws.specs.WellFormed.{wellFormed}
 use Rattle.reading_laws.proofs.Moving.{reading-moved}
-use Rattle.reading_laws.proofs.Accepting.{not-refused}
+use Rattle.reading.proofs.Answers.{not-refused}
 use Rattle.reading_laws.proofs.Joining.{text-reads, accepted-text}
 use Rattle.canonical.specs.Canonical.{textShapes, canonical}
 use Rattle.canonical.specs.Print.{printed, printText}

@@ -13,8 +13,8 @@ use Rattle.tokens.specs.Token.{Shape, width}
 use Rattle.tokens.specs.Spelling.{isWord, isNumber, isName}
 use Rattle.labels.specs.declared.Family.{Family}
 use Rattle.labels.specs.Label.{keywords}
-use Rattle.token_laws.specs.Shaped.{all}
-use Rattle.token_laws.proofs.Tests.{and-left, and-right}
+use Rattle.text.specs.Lists.{all}
+use Rattle.text.proofs.Tests.{and-left, and-right}
 use Rattle.reading.specs.Statement.{
   Name,
   Kind,

@@ -7,11 +7,10 @@ use mathlib.Core.Bool.{true, or-true, _||_}
 use mathlib.Core.List.{List, [], _∷_, _++_}
 use Rattle.tokens.specs.Token.{Shape, mark}
 use Rattle.tokens.specs.Spelling.{isShape, isMark, apart}
-use Rattle.token_laws.specs.Shaped.{all}
-use Rattle.token_laws.proofs.Tests.{and-left, and-right}
+use Rattle.text.specs.Lists.{all}
+use Rattle.text.proofs.Tests.{and-left, and-right, both}
 use Rattle.reading.specs.Statement.{Item}
 use Rattle.reading.specs.Argument.{Arg}
-use Rattle.reading_laws.proofs.Tests.{both}
 use Rattle.canonical.specs.Canonical.{sign, entryShapes, argumentShapes, bracketed}
 use Rattle.canonical_laws.specs.Printed.{
   Entry,

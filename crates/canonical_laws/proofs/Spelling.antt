@@ -13,7 +13,9 @@ use Rattle.text.specs.Bytes.{bytes, memberOf, every}
 use Rattle.tokens.specs.Class.{classOf, countUp}
 use Rattle.tokens.specs.Lex.{inNumber, fraction, numberRest}
 use Rattle.tokens.specs.Spelling.{isNumber}
-use Rattle.token_laws.proofs.Tests.{and-left, and-right, every-member, span-every}
+use Rattle.text.proofs.Tests.{and-left, and-right}
+use Rattle.text.proofs.Lists.{every-member}
+use Rattle.text.proofs.Passing.{span-every}
 use Rattle.counts.specs.Count.{isDigit, whole}
 use Rattle.counts.specs.Decimal.{digitsOf}
 use Rattle.counts.proofs.Digits.{isDigit-bounds}

@@ -11,9 +11,9 @@ use Rattle.text.specs.Bytes.{bytes}
 use Rattle.tokens.specs.Class.{classOf}
 use Rattle.tokens.specs.Token.{Shape, word}
 use Rattle.tokens.specs.Spelling.{isWord}
-use Rattle.token_laws.specs.Shaped.{all}
+use Rattle.text.specs.Lists.{all}
 use Rattle.token_laws.proofs.Spelled.{word-no-number}
-use Rattle.token_laws.proofs.Tests.{and-left, and-right}
+use Rattle.text.proofs.Tests.{and-left, and-right}
 use Rattle.labels.specs.Word.{sameWord}
 use Rattle.labels.specs.Label.{keywords}
 use Rattle.reading.specs.Statement.{Name, aWord, Item, Feature, Statement, Let, feature}

@@ -6,7 +6,7 @@ use mathlib.Core.List.{List, [], _∷_, _++_}
 use Rattle.text.specs.Bytes.{bytes, is}
 use Rattle.tokens.specs.Token.{Shape, word, number, mark}
 use Rattle.tokens.specs.Spelling.{isWord, isNumber, isShape, apart}
-use Rattle.token_laws.specs.Shaped.{all}
+use Rattle.text.specs.Lists.{all}
 use Rattle.labels.specs.Word.{sameWord}
 use Rattle.reading.specs.Statement.{aWord, aNumber, Item, Feature}
 use Rattle.reading.specs.Answer.{accepted}

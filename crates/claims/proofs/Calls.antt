@@ -26,10 +26,10 @@ use Rattle.reading.specs.Statement.{Statement}
 use Rattle.reading.specs.Answer.{Answer, accepted, refused, _>>=_}
 use Rattle.reading.specs.Read.{readText}
 use Rattle.canonical_laws.specs.Forgotten.{forget}
-use Rattle.read_statements.specs.Answers.{counted, chosen, nthOf, counting, stating}
+use Rattle.reading.specs.Calls.{counted, chosen, nthOf, counting, stating}
 use Rattle.read_values.specs.Calls.{Joined}
 use Rattle.read_values.proofs.Joining.{joined}
-use Rattle.resolving.specs.Lists.{gather}
+use Rattle.text.specs.Lists.{gather}
 use Rattle.resolving.specs.Faults.{wrongContext}
 use Rattle.resolving.specs.Resolve.{Resolved, groundText, resolve}
 use Rattle.resolving.specs.Given.{isContext, contextIn, resolveText}
@@ -38,7 +38,7 @@ use Rattle.resolving.specs.Call.{workingLength, exceeds, lengthsIn, roomFor, re
 use Rattle.resolving_laws.specs.Alike.{Alike, both, neither}
 use Rattle.resolving_laws.specs.Claims as definitions
 use Rattle.resolving_laws.specs.Claims.{SameEffects}
-use Rattle.resolving_laws.proofs.Passed.{refused≢accepted}
+use Rattle.reading.proofs.Answers.{not-refused}
 use Rattle.resolving_laws.proofs.Texts.{reordered-alike, ground-text-kept}
 use Rattle.claims.specs.Claims.{fullSize, stated, statementsOf, SameStatements, Reordered, Reread}
 use Rattle.claims.proofs.FullSize.{resolved-fits}
@@ -69,7 +69,7 @@ counted-read limit text n e = by-answer (readText limit text) refl e
   where
     by-answer : (a : Answer (List Statement)) → readText limit text ≡ a → counted 0 a ≡ accepted n → Read limit text n
     by-answer (accepted ss) p h = let z : 0 + length ss ≡ n = cc in record { statements = ss; read = p; many = omega (arith, z) }
-    by-answer (refused k o) p h = absurd (refused≢accepted h)
+    by-answer (refused k o) p h = absurd (not-refused h)
 
 at-each : (xs ss : List Statement) (i : ℕ) → length xs ≡ i
     → gather (λ j. stated (chosen j (getElem? (xs ++ ss) j))) (countUp i (length ss)) ≡ map forget ss
@@ -159,7 +159,7 @@ module _ (limit : ℕ) (block numbers : List ℕ) (work : ℕ) (enough : working
           → (a >>= (λ ss. cond (isContext (givenIn block numbers)) (resolve (contextIn (givenIn block numbers)) ss) (refused wrongContext 0))) ≡ accepted r
           → IsRead limit text
       by-answer (accepted ss) p h = record { statements = ss; read = p }
-      by-answer (refused n o) p h = absurd (refused≢accepted h)
+      by-answer (refused n o) p h = absurd (not-refused h)
 
   pub rereading : (text : List ℕ) (r : Resolved) → resolveCall limit block numbers text fullSize work ≡ accepted r → Reread limit block numbers work r
   rereading text r e = by-run (isRun numbers) refl
@@ -181,5 +181,5 @@ module _ (limit : ℕ) (block numbers : List ℕ) (work : ℕ) (enough : working
       by-run false h = absurd (no-answer (readText limit text) (sym (no-run h text) ∙ e))
         where
           no-answer : (a : Answer (List Statement)) → roomFor fullSize (refusal a) ≡ accepted r → ⊥
-          no-answer (accepted ss) q = refused≢accepted q
-          no-answer (refused n p) q = refused≢accepted q
+          no-answer (accepted ss) q = not-refused q
+          no-answer (refused n p) q = not-refused q

@@ -12,14 +12,14 @@ use Rattle.reading.specs.Statement.{Statement}
 use Rattle.reading.specs.Answer.{Answer, accepted, refused, _>>=_}
 use Rattle.reading.specs.Read.{readText}
 use Rattle.canonical_laws.proofs.Rereading.{few-statements}
-use Rattle.resolving.specs.Lists.{any}
+use Rattle.text.specs.Lists.{any}
 use Rattle.resolving.specs.Effects.{Effect}
 use Rattle.resolving.specs.Brought.{Brought, defining, dropped, stays, brings, atIndex, eachFrom}
 use Rattle.resolving.specs.Merging.{merged}
 use Rattle.resolving.specs.Resolve.{Note, Resolved, groundText, droppedFrom, additive, outcome, resolve}
 use Rattle.resolving.specs.Given.{Given, isContext, contextIn, resolveText}
 use Rattle.resolving.specs.Call.{exceeds, lengthsIn, roomFor}
-use Rattle.resolving_laws.proofs.Passed.{refused≢accepted}
+use Rattle.reading.proofs.Answers.{not-refused}
 use Rattle.resolving_laws.proofs.Settling.{resolved-as}
 use Rattle.resolving_laws.proofs.MergedLaws.{merged-shorter}
 use Rattle.claims.specs.Claims.{fullSize}
@@ -34,8 +34,8 @@ each-many {A} {B} f i (x ∷ xs) ys e = by-first (f x) (eachFrom f (suc i) xs) r
         → ((zs : List B) → eachFrom f (suc i) xs ≡ accepted zs → length zs ≡ length xs)
         → length ys ≡ suc (length xs)
     by-first (accepted b) (accepted zs) q h k = let z : ys ≡ b ∷ zs = cc in ap length z ∙ ap suc (k zs q)
-    by-first (accepted b) (refused n p) q h k = absurd (refused≢accepted h)
-    by-first (refused n p) r q h k = absurd (refused≢accepted h)
+    by-first (accepted b) (refused n p) q h k = absurd (not-refused h)
+    by-first (refused n p) r q h k = absurd (not-refused h)
 
 dropped-few : (i : ℕ) (bs : List Brought) → length (droppedFrom i bs) ≤ length bs
 dropped-few i [] = omega arith
@@ -58,8 +58,8 @@ resolved-fits limit g text r e = by-cases (readText limit text) (isContext g) re
     by-cases : (a : Answer (List Statement)) (t : Bool) → readText limit text ≡ a
         → (a >>= (λ ss. cond t (resolve (contextIn g) ss) (refused 12 0))) ≡ accepted r
         → exceeds fullSize (lengthsIn r) ≡ false
-    by-cases (refused n p) t h k = absurd (refused≢accepted k)
-    by-cases (accepted ss) false h k = absurd (refused≢accepted k)
+    by-cases (refused n p) t h k = absurd (not-refused k)
+    by-cases (accepted ss) false h k = absurd (not-refused k)
     by-cases (accepted ss) true h k =
         let c = contextIn g in
         let a = resolved-as c ss r k in

@@ -10,7 +10,7 @@ use mathlib.Core.Option.{Option, some, none}
 use borrow.Author.Tests.{ltb-false}
 use lib.Dec.{ltb}
 use lib.ListN.{length, length-map}
-use Rattle.labels.specs.Word.{oneLater}
+use Rattle.text.specs.Lists.{oneLater, any, gather, againAfter, again}
 use Rattle.tokens.specs.Lex.{tokens}
 use Rattle.tokens.specs.Next.{scanned}
 use Rattle.reading.specs.Statement.{Statement}
@@ -18,7 +18,6 @@ use Rattle.reading.specs.Answer.{Answer, accepted, refused, tooHigh, tooLong, _
 use Rattle.reading.specs.Read.{readScanned, readText}
 use Rattle.reading_laws.proofs.Within.{refused-within}
 use Rattle.canonical_laws.proofs.Rereading.{few-statements}
-use Rattle.resolving.specs.Lists.{any, gather, againAfter, again}
 use Rattle.resolving.specs.Context.{Context}
 use Rattle.resolving.specs.Symbols.{defines, lets, sameKey, lookUp}
 use Rattle.resolving.specs.Brought.{Brought, bring, atIndex, eachFrom}

@@ -2,7 +2,7 @@
 -- Resolve `resolveCall`. "Full size is 16,384 bytes of text, 2,048 effects, 257 notes and the working length."
 --
 -- Print answers `printText`.
--- Joining: "A, newline, B read as A's statements and then B's with offsets raised by A's length and one" (`Joined`, of `values`).
+-- Joining: "A, newline, B read as A's statements and then B's with offsets raised by A's length and one" (`Joined`, of `read_values`).
 -- Reordering: for "every accepted file D of A's statements in whatever order" and every context, D resolves exactly when A does, and to the same
 -- set of effects.
 -- Rereading: "A's ground text, read and resolved with C again, gives its own bytes back with nothing dropped."
@@ -15,8 +15,8 @@ use Rattle.reading.specs.Statement.{Statement}
 use Rattle.reading.specs.Answer.{Answer, accepted, refused}
 use Rattle.canonical.specs.Print.{printText}
 use Rattle.canonical_laws.specs.Forgotten.{forget}
-use Rattle.read_statements.specs.Answers.{counting, stating}
-use Rattle.resolving.specs.Lists.{any, gather}
+use Rattle.reading.specs.Calls.{counting, stating}
+use Rattle.text.specs.Lists.{any, gather}
 use Rattle.resolving.specs.Resolve.{Resolved, groundText}
 use Rattle.resolving.specs.Call.{Lengths, resolveCall}
 use Rattle.resolving_laws.specs.Alike.{Alike}

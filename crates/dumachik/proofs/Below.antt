@@ -22,11 +22,11 @@ use Rattle.claims.proofs.Places.{reading-within}
 use Rattle.profiling.specs.Profile.{Yes, profileText}
 use Rattle.profiling.specs.Refused.{RefusedBy, by-reading, by-profile}
 use Rattle.profiling.proofs.Places.{refused-by}
-use Rattle.read_statements.specs.Answers.{counted, chosen, nthOf}
-use Rattle.read_statements.proofs.Found.{found-well}
-use Rattle.read_statements.specs.Answers.{counting}
+use Rattle.reading.specs.Calls.{counted, chosen, nthOf, counting}
+use Rattle.reading_laws.proofs.Calls.{found-well}
 use Rattle.numbers_statement.specs.Answers.{numbered, numbering}
-use Rattle.dumachik.specs.Word.{Below, yesAsZero}
+use Rattle.words.specs.Word.{Below}
+use Rattle.read_profile.specs.Answers.{yesAsZero}
 
 -- a text's fault is told within its first 16,384 bytes
 fault-below : (limit : ℕ) (s : List ℕ) (k p : ℕ) → readText limit s ≡ refused k p → p < 4294967296

@@ -9,7 +9,7 @@ use Rattle.reading.specs.Statement.{Statement}
 use Rattle.reading.specs.Answer.{Answer, accepted, refused}
 use Rattle.canonical_laws.proofs.Offsets.{numbers-raised}
 use Rattle.read_values.specs.Calls.{raised}
-use Rattle.read_statements.specs.Answers.{counting, stating}
+use Rattle.reading.specs.Calls.{counting, stating}
 use Rattle.read_values.proofs.Joining.{joined}
 use Rattle.numbers_statement.specs.Answers.{numbered}
 use Rattle.dumachik.specs.Joined.{numbersOn, NumbersJoined}

@@ -21,38 +21,26 @@ use Rattle.canonical.specs.Numbers.{allNumbered, allNumbering}
 use Rattle.resolving.specs.Resolve.{Resolved}
 use Rattle.resolving.specs.Call.{Lengths, lengthsOf, resolveCall}
 use Rattle.resolving_laws.proofs.Faults.{call-gives}
-use Rattle.resolving_laws.proofs.Passed.{refused≢accepted}
-use Rattle.read_statements.specs.Answers.{counted, counting, chosen, nthOf}
+use Rattle.reading.proofs.Answers.{not-refused}
+use Rattle.reading.specs.Calls.{counted, counting, chosen, nthOf}
 use Rattle.numbers_statement.specs.Answers.{numbered, numbering}
 use Rattle.resolve_records.specs.Words.{lengthsWord, resolvedWord, Small}
 use Rattle.resolve_records.proofs.Below.{resolved-small}
 use Rattle.profiling.specs.Profile.{Yes, profileText}
 use Rattle.profiling.specs.Refused.{RefusedBy, by-reading, by-profile}
 use Rattle.profiling.proofs.Places.{refused-by}
-use Rattle.dumachik.specs.Word.{word, yesAsZero, Below}
-use Rattle.dumachik.specs.Told.{answerIn, lengthsIn, resolvedIn}
+use Rattle.words.specs.Word.{word, Below, answerIn}
+use Rattle.read_profile.specs.Answers.{yesAsZero}
+use Rattle.dumachik.specs.Told.{lengthsIn, resolvedIn}
+use Rattle.words.proofs.Telling.{place-told, word-told}
 use Rattle.dumachik.proofs.Below.{count-below, print-below, statement-below, statements-below, profile-below}
 
--- A refusal's number and its place.
+byte-told : (k p : ℕ) → p < 4294967296 → isFault k ≡ true → (k * 4294967296 + p) / 4294967296 % 256 ≡ k
+byte-told k p h f = omega (arith, fault-most k f)
 
-module _ (k p : ℕ) (h : p < 4294967296) where
-  number-told : (k * 4294967296 + p) / 4294967296 ≡ k
-  number-told = omega arith
-
-  byte-told : isFault k ≡ true → (k * 4294967296 + p) / 4294967296 % 256 ≡ k
-  byte-told f = omega (arith, fault-most k f)
-
-  place-told : (k * 4294967296 + p) % 4294967296 ≡ p
-  place-told = omega arith
-
--- An answer by its word.
-told : (a : Answer ℕ) → ((k p : ℕ) → a ≡ refused k p → 1 ≤ k) → Below a → answerIn (word a) ≡ a
-told (accepted n) g h = rw (eq-eqb (n / 4294967296) 0 (omega arith))
-told (refused k p) g h = rw (number-told k p h, place-told k p h, ne-eqb k 0 (λ e. omega (arith, g k p refl)))
-
--- one that is refused by the number of a fault
+-- an answer that is refused by the number of a fault
 fault-told : (a : Answer ℕ) → Gives Anything a → Below a → answerIn (word a) ≡ a
-fault-told a g h = told a (λ k p e. fault-least k (fault-given g e)) h
+fault-told a g h = word-told a (λ k p e. fault-least k (fault-given g e)) h
 
 -- three lengths, each by its bits
 module _ (n : Lengths) (h : Small (accepted n)) where
@@ -144,14 +132,14 @@ statements-told limit room text =
     (statements-below limit room text)
 
 pub profile-told : (limit : ℕ) (text : List ℕ) → answerIn (word (yesAsZero (profileText limit text))) ≡ yesAsZero (profileText limit text)
-profile-told limit text = told (yesAsZero (profileText limit text)) (go (profileText limit text) refl) (profile-below limit text)
+profile-told limit text = word-told (yesAsZero (profileText limit text)) (go (profileText limit text) refl) (profile-below limit text)
   where
     by-cause : {k p : ℕ} → RefusedBy limit text k p → 1 ≤ k
     by-cause {k} {p} (by-reading e) = fault-least k (refused-fault limit text k p e)
     by-cause (by-profile ss e l m w) = omega (arith, l)
 
     go : (a : Answer Yes) → profileText limit text ≡ a → (k p : ℕ) → yesAsZero a ≡ refused k p → 1 ≤ k
-    go (accepted y) h k p e = absurd (refused≢accepted (sym e))
+    go (accepted y) h k p e = absurd (not-refused (sym e))
     go (refused n q) h k p e =
         let z : n ≡ k = cc in
         omega (arith, by-cause (refused-by limit text n q h), z)

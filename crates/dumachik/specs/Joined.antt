@@ -8,7 +8,7 @@ use Rattle.reading.specs.Statement.{Statement}
 use Rattle.reading.specs.Answer.{Answer, accepted, refused}
 use Rattle.canonical.specs.Numbers.{numbersOf}
 use Rattle.canonical_laws.specs.Offsets.{offsetsOf, raised}
-use Rattle.read_statements.specs.Answers.{stating}
+use Rattle.reading.specs.Calls.{stating}
 use Rattle.numbers_statement.specs.Answers.{numbering}
 
 -- a statement's numbers so many bytes further on in a text: those that are offsets are raised, and all others stay

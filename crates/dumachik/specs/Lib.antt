@@ -1,4 +1,3 @@
 pub mod Scan
-pub mod Word
 pub mod Joined
 pub mod Told

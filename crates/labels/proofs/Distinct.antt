@@ -10,7 +10,8 @@ use lib.ListN.{length, getD}
 use Rattle.text.proofs.Tests.{halves, refuted}
 use Rattle.labels.specs.declared.Family.{Family}
 use Rattle.labels.specs.Label.{labelsOf, keywords}
-use Rattle.labels.specs.Word.{sameWord, find, absent, distinct}
+use Rattle.labels.specs.Word.{sameWord, find, distinct}
+use Rattle.text.specs.Lists.{absent}
 use Rattle.labels.proofs.Families.{by-family}
 use Rattle.labels.proofs.Words.{same-self, same-sym, same-trans}
 

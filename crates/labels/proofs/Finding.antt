@@ -7,7 +7,8 @@ use mathlib.Core.Option.{Option, some, none, Option·none-ne-some}
 use Prim.Native.Nat.{ℕ, zero, suc, _<_}
 use native.Mathlib.Omega.{arith}
 use lib.ListN.{length, getD}
-use Rattle.labels.specs.Word.{sameWord, oneLater, find}
+use Rattle.labels.specs.Word.{sameWord, find}
+use Rattle.text.specs.Lists.{oneLater}
 
 -- the place lies in the list and has the word
 pub record FoundAt (w : List ℕ) (ls : List (List ℕ)) (i : ℕ) : Type 0 where

@@ -7,7 +7,8 @@ use mathlib.Core.Option.{Option, some, none}
 use Prim.Native.Nat.{ℕ, suc, _+_, _-_, _≤_, _<_}
 use native.Mathlib.Nat.{add-zero, zero-add, sub-zero}
 use native.Mathlib.Omega.{arith}
-use Rattle.labels.specs.Word.{sameWord, oneLater, find}
+use Rattle.labels.specs.Word.{sameWord, find}
+use Rattle.text.specs.Lists.{oneLater}
 use Rattle.labels.specs.Row.{labelAt, labelsIn}
 
 -- a place, counted on from k

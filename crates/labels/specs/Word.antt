@@ -1,10 +1,11 @@
 -- Words compared ignoring ASCII case (000, `eq_ignore_ascii_case`).
-use Prim.Native.Nat.{ℕ, suc, _+_}
+use Prim.Native.Nat.{ℕ, _+_}
 use mathlib.Core.Bool.{Bool, true, false, cond, _&&_}
 use mathlib.Core.List.{List, [], _∷_}
 use mathlib.Core.Option.{Option, some, none}
 use lib.Dec.{eqb}
 use Rattle.text.specs.Bytes.{between}
+use Rattle.text.specs.Lists.{oneLater, absent}
 
 -- a letter's lower case; any other byte as it is
 abbrev pub lower : ℕ → ℕ
@@ -16,19 +17,10 @@ sameWord [] (y ∷ ys) = false
 sameWord (x ∷ xs) [] = false
 sameWord (x ∷ xs) (y ∷ ys) = eqb (lower x) (lower y) && sameWord xs ys
 
-abbrev pub oneLater : Option ℕ → Option ℕ
-oneLater none = none
-oneLater (some i) = some (suc i)
-
 -- the place of the first label that is the word, ignoring case
 unfoldable pub find : List ℕ → List (List ℕ) → Option ℕ
 find w [] = none
 find w (l ∷ ls) = cond (sameWord w l) (some 0) (oneLater (find w ls))
-
--- nothing was found
-abbrev pub absent : Option ℕ → Bool
-absent none = true
-absent (some i) = false
 
 -- no two labels of the list are the same word
 unfoldable pub distinct : List (List ℕ) → Bool

@@ -6,9 +6,8 @@ use native.Mathlib.Omega.{arith}
 use mathlib.Core.Path.{_≡_, refl, _∙_, ap}
 use mathlib.Core.List.{List, [], _∷_}
 use lib.ListN.{length}
-use Rattle.token_laws.specs.Shaped.{all}
-use Rattle.token_laws.proofs.Tests.{and-left, and-right}
-use Rattle.reading_laws.proofs.Tests.{both}
+use Rattle.text.specs.Lists.{all}
+use Rattle.text.proofs.Tests.{and-left, and-right, both}
 use Rattle.print_writing.specs.Written.{patch, Written}
 use Rattle.print_writing.proofs.Writing.{patch-none}
 use Rattle.numbers_statement.specs.Ready.{isSmall, Ready}

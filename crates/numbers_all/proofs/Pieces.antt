@@ -14,11 +14,11 @@ use lib.Seq.{take-at, drop-at, drop-drop}
 use Rattle.reading.specs.Statement.{Statement}
 use Rattle.reading.specs.Answer.{Answer, accepted, refused}
 use Rattle.reading.specs.Read.{readText}
-use Rattle.reading_laws.proofs.Accepting.{not-refused}
+use Rattle.reading.proofs.Answers.{not-refused}
 use Rattle.canonical.specs.Print.{fitting}
 use Rattle.canonical.specs.Numbers.{numbersOf, countedNumbers, allNumbersOf, allNumbered, allNumbering}
 use Rattle.canonical_laws.proofs.Rooms.{all-numbers-room}
-use Rattle.read_statements.specs.Answers.{counting, counted, chosen, nthOf}
+use Rattle.reading.specs.Calls.{counting, counted, chosen, nthOf}
 use Rattle.numbers_statement.specs.Answers.{numbered, numbering}
 use Rattle.numbers_all.specs.Pieces.{Piece, Pieces}
 

@@ -8,12 +8,12 @@ use mathlib.Core.List.{List, [], _∷_}
 use borrow.Author.Tests.{le-leb, leb-true}
 use lib.Dec.{leb}
 use lib.ListN.{length}
-use Rattle.token_laws.specs.Shaped.{all}
-use Rattle.token_laws.proofs.Tests.{and-left, and-right}
+use Rattle.text.specs.Lists.{all}
+use Rattle.text.proofs.Tests.{and-left, and-right, both}
 use Rattle.reading.specs.Statement.{Statement}
 use Rattle.reading.specs.Answer.{accepted}
 use Rattle.reading.specs.Read.{readText}
-use Rattle.reading_laws.proofs.Tests.{both, all-append}
+use Rattle.text.proofs.Passing.{all-append}
 use Rattle.reading_laws.proofs.Joining.{accepted-short}
 use Rattle.canonical.specs.Numbers.{numbersOf, countedNumbers, allNumbersOf}
 use Rattle.canonical_laws.proofs.Numbers.{few-numbers-read, small-numbers}

@@ -7,7 +7,7 @@ ghost use lib.ListN.{length};
 ghost use Rattle.tokens.specs.Class.{classTable};
 ghost use Rattle.labels.specs.Table.{labelTable, keywordTable};
 ghost use Rattle.reading.specs.Answer.{accepted};
-ghost use Rattle.canonical.specs.Print.{lengthOf, fitting, output};
+ghost use Rattle.canonical.specs.Print.{Answers};
 ghost use Rattle.canonical.specs.Numbers.{countedNumbers, allNumbersOf, allNumbering};
 ghost use Rattle.read_forms.specs.Forms.{statementIn};
 ghost use Rattle.read_parts.specs.Apart.{apart};
@@ -16,18 +16,18 @@ ghost use Rattle.print_writing.specs.Written.{Written};
 ghost use Rattle.numbers_statement.specs.Ready.{Ready};
 ghost use Rattle.numbers_statement.specs.Answers.{numbersAs};
 ghost use Rattle.read_space.specs.Space.{statementsIn, Whole};
-ghost use Rattle.numbers_all.specs.Answers.{WasRead, Answers};
+ghost use Rattle.numbers_all.specs.Answers.{WasRead};
 ghost use Rattle.reading_laws.specs.Admitted.{Admitted};
 use labels::Keywords;
 use labels::Labels;
 use numbers_statement::NumbersAt;
+use read_forms::Admission;
 use read_forms::Feature;
 use read_forms::Modes;
 use read_forms::Refusal;
 use read_forms::Statement;
 use read_space::Ending;
 use read_space::Space;
-use read_statements::Admission;
 use read_statements::NextRead;
 use tokens::Classes;
 use tokens::Cursor;
@@ -73,7 +73,7 @@ fn put_read(
 ) -> NumbersAt
     requires { ⌜ (now classes ≡ classTable) × (now labels ≡ labelTable) × (now keys ≡ keywordTable) × Admitted limit (now text)
         × (2 * length (now text) ≤ length (now out)) ⌝ }
-    ensures { λ r. ⌜ Answers (allNumbering limit (now (text .entry))) (now (out .entry)) (now (out .exit)) r ⌝ }
+    ensures { λ r. ⌜ Answers (allNumbering limit (now (text .entry))) (now (out .entry)) (now (out .exit)) (numbersAs r) ⌝ }
 {
     let mut forms = no_forms();
     let mut n = 0;
@@ -122,7 +122,7 @@ fn put_space(text: &[u8], classes: &Classes, space: Space, out: &mut [u32]) -> u
 // The same if there is room for all of them: they are counted first, on none of the buffer.
 fn put_measured(text: &[u8], classes: &Classes, space: Space, out: &mut [u32]) -> NumbersAt
     requires { ⌜ (now classes ≡ classTable) × Whole space × WasRead (now text) (statementsIn (now text) space) ⌝ }
-    ensures { λ r. ⌜ Answers (accepted (allNumbersOf (statementsIn (now (text .entry)) space))) (now (out .entry)) (now (out .exit)) r ⌝ }
+    ensures { λ r. ⌜ Answers (accepted (allNumbersOf (statementsIn (now (text .entry)) space))) (now (out .entry)) (now (out .exit)) (numbersAs r) ⌝ }
 {
     let room = out.len();
     let size = put_space(text, classes, space, &mut out[..0]);
@@ -145,7 +145,7 @@ fn put_short(
     out: &mut [u32],
 ) -> NumbersAt
     requires { ⌜ (now classes ≡ classTable) × (now labels ≡ labelTable) × (now keys ≡ keywordTable) × Admitted limit (now text) ⌝ }
-    ensures { λ r. ⌜ Answers (allNumbering limit (now (text .entry))) (now (out .entry)) (now (out .exit)) r ⌝ }
+    ensures { λ r. ⌜ Answers (allNumbering limit (now (text .entry))) (now (out .entry)) (now (out .exit)) (numbersAs r) ⌝ }
 {
     let space = read_space::read_space(text, classes, labels, keys, limit);
     let ending = space.ending;
@@ -157,10 +157,9 @@ fn put_short(
 
 // The numbers of all statements of a text, or why there are none.
 pub fn all_numbers_under(text: &[u8], limit: u32, out: &mut [u32]) -> NumbersAt
-    ensures { λ r. ⌜ (numbersAs r ≡ lengthOf (fitting (length (now (out .entry))) (allNumbering limit (now (text .entry)))))
-        × (now (out .exit) ≡ output (fitting (length (now (out .entry))) (allNumbering limit (now (text .entry)))) (now (out .entry))) ⌝ }
+    ensures { λ r. ⌜ Answers (allNumbering limit (now (text .entry))) (now (out .entry)) (now (out .exit)) (numbersAs r) ⌝ }
 {
-    match read_statements::admit(text, limit) {
+    match read_forms::admit(text, limit) {
         Admission::Refused(r) => {
             return NumbersAt::Refused(r);
         }

@@ -5,10 +5,10 @@ use mathlib.Core.Bool.{true}
 use mathlib.Core.List.{List, [], _∷_, _++_}
 use Prim.Native.Nat.{ℕ, _≤_}
 use borrow.Author.Tests.{leb-true}
-use Rattle.token_laws.proofs.Tests.{and-left}
+use Rattle.text.proofs.Tests.{and-left}
 use Rattle.print_writing.specs.Written.{Written}
 use Rattle.print_writing.proofs.Going.{Going, room-left, room-first}
-use Rattle.reading_laws.proofs.Tests.{all-left, all-right}
+use Rattle.text.proofs.Passing.{all-left, all-right}
 use Rattle.numbers_statement.specs.Ready.{isSmall, Ready}
 
 -- one number

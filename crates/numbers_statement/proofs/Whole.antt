@@ -1,17 +1,16 @@
 -- Measured, compared and written: the numbers if there is room for all of them, and else nothing but the refusal.
 -- Assumes nothing.
-use mathlib.Core.Path.{_≡_, refl, _∙_, ap, sym}
+use mathlib.Core.Path.{_≡_, refl, _∙_, ap, sym, subst}
 use mathlib.Core.Bool.{true}
 use mathlib.Core.List.{List, [], _++_}
 use Prim.Native.Nat.{ℕ, _≤_, _<_}
 use native.Mathlib.Omega.{arith}
-use borrow.Author.Tests.{lt-ltb, le-ltb}
 use lib.ListN.{length}
-use Rattle.token_laws.specs.Shaped.{all}
+use Rattle.text.specs.Lists.{all}
 use Rattle.reading.specs.Statement.{Statement}
-use Rattle.reading.specs.Answer.{Answer, accepted, refused}
+use Rattle.reading.specs.Answer.{accepted, refused}
 use Rattle.reading.specs.Read.{readText}
-use Rattle.canonical.specs.Print.{lengthOf, fitting, output}
+use Rattle.canonical.specs.Print.{Answers}
 use Rattle.canonical.specs.Numbers.{partNumbers, partsNumbers, headNumbers, numbersOf, takenNumbers}
 use Rattle.canonical_laws.proofs.Numbers.{few-numbers, small-numbers}
 use Rattle.reading.specs.Parts.{Part}
@@ -21,13 +20,12 @@ use Rattle.read_parts.specs.declared.Parts.{Parts}
 use Rattle.read_parts.specs.Apart.{apart}
 use Rattle.read_parts.specs.Meaning.{partIn, partsIn}
 use Rattle.read_parts.proofs.Meaning.{taken}
-use Rattle.read_statements.specs.Answers.{nthOf}
-use Rattle.read_statements.proofs.Found.{found-passes, found-well}
+use Rattle.reading.specs.Calls.{nthOf}
+use Rattle.reading_laws.proofs.Calls.{found-passes, found-well}
 use Rattle.print_writing.specs.Written.{Written}
-use Rattle.print_writing.proofs.Writing.{patch-empty, patch-front}
+use Rattle.print_writing.proofs.Answering.{none-lent, room-answers, short-answers}
 use Rattle.numbers_statement.specs.Ready.{isSmall, Ready}
 use Rattle.numbers_statement.specs.Entries.{numbersIn, takenIn}
-use Rattle.numbers_statement.specs.Answers.{numbered}
 use mathlib.Core.List.{_∷_, append-assoc}
 
 -- The numbers of a statement are those of its keyword and of its parts.
@@ -74,33 +72,13 @@ numbers-ready limit s i st e =
 
 module _ (out ns none : List ℕ) (size : ℕ) (measured : Written [] 0 ns none size) where
   -- measuring writes nothing
-  nothing : none ≡ []
-  nothing = measured .bytes ∙ patch-empty 0 ns
+  unchanged : none ++ out ≡ out
+  unchanged = none-lent out [] none ns size refl measured
 
-  pub too-short :
-      length out < size
-      → (refused 19 0 ≡ lengthOf (fitting (length out) (accepted ns)))
-      × (none ++ out ≡ output (fitting (length out) (accepted ns)) out)
-  too-short h =
-      let l : length out < length ns = omega (arith, measured .next) in
-      let t = lt-ltb (length out) (length ns) l in
-      (rw t, rw (t, nothing))
+  pub too-short : length out < size → Answers (accepted ns) out (none ++ out) (refused 19 0)
+  too-short h = short-answers out (accepted ns) ns refl (none ++ out) (omega (arith, measured .next)) unchanged
 
-  pub long-enough :
-      (after : List ℕ) (r : ℕ)
-      → size ≤ length out
-      → Written (none ++ out) 0 ns after r
-      → (accepted r ≡ lengthOf (fitting (length out) (accepted ns)))
-      × (after ≡ output (fitting (length out) (accepted ns)) out)
+  pub long-enough : (after : List ℕ) (r : ℕ) → size ≤ length out → Written (none ++ out) 0 ns after r → Answers (accepted ns) out after (accepted r)
   long-enough after r h w =
-      let l : length ns ≤ length out = omega (arith, measured .next) in
-      let t = le-ltb (length out) (length ns) l in
-      let e : r ≡ length ns = omega (arith, w .next) in
-      (rw (t, e), rw (t, w .bytes, nothing) (patch-front out ns l))
-
--- A refusal is handed on.
-pub handed-on :
-    (out : List ℕ) (a : Answer Statement) (n p : ℕ)
-    → refused n p ≡ a
-    → (refused n p ≡ lengthOf (fitting (length out) (numbered a))) × (out ≡ output (fitting (length out) (numbered a)) out)
-handed-on out a n p e = rw (← e) (refl, refl)
+      room-answers out (accepted ns) ns refl after r (omega (arith, measured .next))
+      (subst (λ (l : List ℕ). Written l 0 ns after r) unchanged w)

@@ -4,7 +4,7 @@ use mathlib.Core.List.{List}
 use Rattle.reading.specs.Statement.{Statement}
 use Rattle.reading.specs.Answer.{Answer, accepted, refused}
 use Rattle.canonical.specs.Numbers.{numbersOf}
-use Rattle.read_statements.specs.Answers.{stating}
+use Rattle.reading.specs.Calls.{stating}
 use Rattle.numbers_statement.specs.declared.NumbersAt.{NumbersAt}
 use Rattle.numbers_statement.specs.declared.NumbersAt.the-variants as numbersAt
 
@@ -17,6 +17,6 @@ numbered (refused n p) = refused n p
 abbrev pub numbering : ℕ → List ℕ → ℕ → Answer (List ℕ)
 numbering limit text index = numbered (stating limit text index)
 
-unfoldable pub numbersAs : NumbersAt → Answer ℕ
+abbrev pub numbersAs : NumbersAt → Answer ℕ
 numbersAs (numbersAt.Count n) = accepted n
 numbersAs (numbersAt.Refused r) = refused (r .number) (r .place)

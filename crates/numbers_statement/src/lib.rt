@@ -5,7 +5,7 @@ ghost use mathlib.Core.List.{[], _∷_};
 ghost use lib.ListN.{length};
 ghost use Rattle.tokens.specs.Class.{classTable};
 ghost use Rattle.reading.specs.Answer.{accepted};
-ghost use Rattle.canonical.specs.Print.{lengthOf, fitting, output};
+ghost use Rattle.canonical.specs.Print.{Answers};
 ghost use Rattle.canonical.specs.Numbers.{pairNumbers, kindNumber, modesNumbers, countsNumbers, operandNumbers, operatorNumbers, headNumbers, numbersOf};
 ghost use Rattle.read_packs.specs.Packs.{places};
 ghost use Rattle.read_forms.specs.Items.{nameIn, kindAs, itemsIn};
@@ -15,6 +15,7 @@ ghost use Rattle.read_checks.specs.Answers.{entryIn};
 ghost use Rattle.read_parts.specs.Apart.{apart};
 ghost use Rattle.read_parts.specs.Meaning.{CountsFit, OperandFits, PartFits, PartsFit};
 ghost use Rattle.print_writing.specs.Written.{Written};
+ghost use Rattle.words.specs.Word.{word, Below};
 ghost use Rattle.numbers_statement.specs.Ready.{Ready};
 ghost use Rattle.numbers_statement.specs.Entries.{entryNumbers, entriesNumbers, numbersIn, takenIn};
 ghost use Rattle.numbers_statement.specs.Answers.{numbering, numbersAs};
@@ -30,7 +31,7 @@ use read_forms::Refusal;
 use read_forms::Statement;
 use read_parts::Part;
 use read_parts::Parts;
-use read_statements::StatementAt;
+use read_text::StatementAt;
 use tokens::Classes;
 
 // What is written of an entry of a list: its pair, its kind and its pair, or its count.
@@ -44,6 +45,19 @@ pub enum Entry {
 pub enum NumbersAt {
     Count(usize),
     Refused(Refusal),
+}
+
+impl NumbersAt {
+    // Statement's word for programs in other languages.
+    pub fn word(self) -> u64
+        requires { ⌜ Below (numbersAs self) ⌝ }
+        ensures { λ r. ⌜ r ≡ word (numbersAs self) ⌝ }
+    {
+        match self {
+            NumbersAt::Count(n) => words::number_word(n),
+            NumbersAt::Refused(refusal) => words::refusal_word(refusal),
+        }
+    }
 }
 
 // One number, and the index behind it.
@@ -282,8 +296,7 @@ pub fn put_parts(text: &[u8], classes: &Classes, parts: Parts, out: &mut [u32], 
 // The numbers of a statement that was read: they are counted first, on none of the buffer.
 fn put_whole(text: &[u8], classes: &Classes, parts: Parts, out: &mut [u32]) -> NumbersAt
     requires { ⌜ (now classes ≡ classTable) × PartsFit (now text) parts × Ready 0 (takenIn (now text) parts) ⌝ }
-    ensures { λ r. ⌜ (numbersAs r ≡ lengthOf (fitting (length (now (out .entry))) (accepted (takenIn (now (text .entry)) parts))))
-        × (now (out .exit) ≡ output (fitting (length (now (out .entry))) (accepted (takenIn (now (text .entry)) parts))) (now (out .entry))) ⌝ }
+    ensures { λ r. ⌜ Answers (accepted (takenIn (now (text .entry)) parts)) (now (out .entry)) (now (out .exit)) (numbersAs r) ⌝ }
 {
     let room = out.len();
     let size = put_parts(text, classes, parts, &mut out[..0], 0);
@@ -298,10 +311,9 @@ fn put_whole(text: &[u8], classes: &Classes, parts: Parts, out: &mut [u32]) -> N
 
 // The numbers of the statement of a text at an index, or why there are none.
 pub fn numbers_under(text: &[u8], index: u32, limit: u32, out: &mut [u32]) -> NumbersAt
-    ensures { λ r. ⌜ (numbersAs r ≡ lengthOf (fitting (length (now (out .entry))) (numbering limit (now (text .entry)) index)))
-        × (now (out .exit) ≡ output (fitting (length (now (out .entry))) (numbering limit (now (text .entry)) index)) (now (out .entry))) ⌝ }
+    ensures { λ r. ⌜ Answers (numbering limit (now (text .entry)) index) (now (out .entry)) (now (out .exit)) (numbersAs r) ⌝ }
 {
-    match read_statements::statement_under(text, index as usize, limit) {
+    match read_text::statement_under(text, index as usize, limit) {
         StatementAt::Statement(statement) => {
             let classes = tokens::CLASSES;
             put_whole(text, &classes, read_parts::parts_of(statement), out)

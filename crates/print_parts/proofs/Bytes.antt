@@ -9,14 +9,10 @@ use lib.ListN.{length}
 use Rattle.text.specs.Bytes.{bytes}
 use Rattle.tokens.specs.Token.{Shape, word, number}
 use Rattle.tokens.specs.Spelling.{isNumber, spell, spellAll}
+use Rattle.tokens.proofs.Spelling.{spell-append}
 use Rattle.reading.specs.Statement.{Name}
 use Rattle.canonical.specs.Canonical.{sign, nameShape, entryShapes, bracketed, bareOne}
 use Rattle.print_parts.specs.Parts.{behindEntry}
-
-pub spell-append : (xs ys : List Shape) → spellAll (xs ++ ys) ≡ spellAll xs ++ spellAll ys
-spell-append [] ys = refl
-spell-append (x ∷ xs) ys =
-    ap (λ l. spell x ++ l) (spell-append xs ys) ∙ sym (append-assoc (spell x) (spellAll xs) (spellAll ys))
 
 -- one shape alone
 pub spell-one : (x : Shape) → spellAll (x ∷ []) ≡ spell x

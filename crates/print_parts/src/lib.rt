@@ -31,22 +31,12 @@ pub enum Entry {
     Count,
 }
 
-// A name's bytes, as a part of the text.
-fn spelling(text: &[u8], name: Name) -> &[u8]
-    requires { ⌜ InText (now text) name ⌝ }
-    ensures { λ r. ⌜ now r ≡ nameIn (now (text .entry)) name .spelling ⌝ }
-{
-    let start = name.offset;
-    let end = start + name.length;
-    &text[start..end]
-}
-
 // A name as it is written.
 pub fn put_name(text: &[u8], name: Name, out: &mut [u8], at: usize) -> usize
     requires { ⌜ InText (now text) name × Room at (nameIn (now text) name .spelling) ⌝ }
     ensures { λ r. ⌜ Written (now (out .entry)) at (nameIn (now (text .entry)) name .spelling) (now (out .exit)) r ⌝ }
 {
-    print_writing::put_all(out, at, spelling(text, name))
+    print_writing::put_all(out, at, read_forms::spelling(text, name))
 }
 
 // An entry of a list: a name, or a count without leading zeros.

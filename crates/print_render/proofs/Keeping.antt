@@ -8,8 +8,8 @@ use native.Mathlib.Numerals.{add-one}
 use native.Mathlib.Omega.{arith}
 use lib.ListN.{length, take, set, getD, length-set}
 use lib.Seq.{take-suc-set, slice, slice-cons, slice-empty}
-use Rattle.token_laws.specs.Shaped.{all}
-use Rattle.token_laws.proofs.Tests.{and-left, and-right}
+use Rattle.text.specs.Lists.{all}
+use Rattle.text.proofs.Tests.{and-left, and-right}
 use Rattle.reading.specs.Statement.{Statement}
 use Rattle.reading.specs.Answer.{Answer, accepted, refused}
 use Rattle.reading.specs.Read.{between, prepend, readText}
@@ -19,7 +19,7 @@ use Rattle.reading_laws.specs.Spelled.{asRead}
 use Rattle.reading_laws.proofs.Joining.{accepted-text}
 use Rattle.reading_laws.proofs.Spelled.{text-as-read}
 use Rattle.canonical.specs.Canonical.{canonical}
-use Rattle.canonical.specs.Print.{printText}
+use Rattle.canonical.specs.Print.{printText, Answers}
 use Rattle.canonical_laws.proofs.Shorter.{not-longer}
 use Rattle.read_forms.specs.declared.Statement as form
 use Rattle.read_forms.specs.Forms.{statementIn}
@@ -31,12 +31,11 @@ use Rattle.read_parts.proofs.Fitting.{statement-fits}
 use Rattle.print_writing.specs.Written.{Room, Written}
 use Rattle.print_writing.proofs.Going.{Going, going, told, further, no-more, room-first}
 use Rattle.read_forms.specs.declared.Refusal.{Refusal}
-use Rattle.print_render.specs.declared.Printed.{Printed}
-use Rattle.print_render.specs.declared.Printed.the-variants as printed
 use Rattle.print_render.specs.declared.Kept.{Kept}
 use Rattle.print_render.specs.declared.Kept.the-variants.{Refused, More}
-use Rattle.print_render.specs.Text.{pieceOf, Answers, KeptAs, restOf}
-use Rattle.print_render.proofs.Pieces.{canonical-pieces}
+use Rattle.print_render.specs.Text.{KeptAs}
+use Rattle.canonical.specs.Lines.{pieceOf, restOf}
+use Rattle.canonical.proofs.Lines.{canonical-pieces}
 use Rattle.print_render.proofs.Loop.{canonical-short}
 use Rattle.print_render.proofs.Answering.{refused-answers, room-answers}
 
@@ -99,7 +98,7 @@ module _ {limit : ℕ} {s before now : List ℕ} {forms : List form.Statement} {
         })
 
   -- all are printed
-  pub all-put : n ≤ i → length s ≤ length before → Answers (printText limit s) before now (printed.Length at)
+  pub all-put : n ≤ i → length s ≤ length before → Answers (printText limit s) before now (accepted at)
   all-put h q =
       let e : i ≡ n = omega (arith, h, g .most) in
       let z : restOf i (map (statementIn s) (slice i n forms)) ≡ [] =
@@ -118,7 +117,7 @@ module _ (limit : ℕ) (s before mid after : List ℕ) (g : KeptAs limit s befor
   pub kept-next : (r : Kept) → KeptAs limit s mid after r → KeptAs limit s before after r
   kept-next r h = subst (λ (b : List ℕ). KeptAs limit s b after r) same-buffer h
 
-  pub answers-next : (r : Printed) → Answers (printText limit s) mid after r → Answers (printText limit s) before after r
+  pub answers-next : (r : Answer ℕ) → Answers (printText limit s) mid after r → Answers (printText limit s) before after r
   answers-next r h = subst (λ (b : List ℕ). Answers (printText limit s) b after r) same-buffer h
 
 -- a refusal of the reading is the text's, once a byte that starts no token was looked for
@@ -127,8 +126,8 @@ pub refused-next :
     → KeptAs limit s before after (Refused x)
     → Admitted limit s
     → FirstFault s x r
-    → Answers (printText limit s) before after (printed.Refused r)
+    → Answers (printText limit s) before after (refused (r .number) (r .place))
 unfolding KeptAs
 refused-next limit s before after x r g h f =
-    subst (λ (b : List ℕ). Answers (printText limit s) before b (printed.Refused r)) (sym (g .1))
+    subst (λ (b : List ℕ). Answers (printText limit s) before b (refused (r .number) (r .place))) (sym (g .1))
     (refused-answers limit s before r (f limit h (g .0)))

@@ -11,7 +11,7 @@ use Rattle.reading.specs.Statement.{Statement}
 use Rattle.reading.specs.Answer.{Answer, accepted, refused}
 use Rattle.reading.specs.Read.{readText}
 use Rattle.reading_laws.specs.Admitted.{Admitted}
-use Rattle.reading_laws.proofs.Accepting.{not-refused}
+use Rattle.reading.proofs.Answers.{not-refused}
 use Rattle.reading_laws.proofs.Joining.{accepted-admitted}
 use Rattle.reading_laws.proofs.WellRead.{text-well-formed}
 use Rattle.canonical.specs.Canonical.{canonical}
@@ -19,7 +19,7 @@ use Rattle.canonical.specs.Print.{printed, printText}
 use Rattle.canonical_laws.specs.Forgotten.{forget}
 use Rattle.canonical_laws.proofs.Shorter.{not-longer}
 use Rattle.canonical_laws.proofs.Rereading.{rereads, prints-itself, few-statements}
-use Rattle.read_statements.specs.Answers.{counted, chosen, nthOf}
+use Rattle.reading.specs.Calls.{counted, chosen, nthOf}
 use Rattle.print_render.specs.Laws.{unplaced, Canonical}
 
 -- statements that are the same without their places: as many, and each the same

@@ -1,4 +1,3 @@
-pub mod Pieces
 pub mod Loop
 pub mod Answering
 pub mod Keeping

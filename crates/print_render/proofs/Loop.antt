@@ -7,13 +7,13 @@ use Prim.Native.Nat.{ℕ, suc, _+_, _≤_}
 use native.Mathlib.Numerals.{add-one}
 use native.Mathlib.Omega.{arith}
 use lib.ListN.{length}
-use Rattle.token_laws.specs.Shaped.{all}
-use Rattle.token_laws.proofs.Tests.{and-left, and-right}
+use Rattle.text.specs.Lists.{all}
+use Rattle.text.proofs.Tests.{and-left, and-right}
 use Rattle.reading.specs.Statement.{Statement}
 use Rattle.reading.specs.Answer.{Answer, accepted}
 use Rattle.reading.specs.Read.{between, prepend, readText}
 use Rattle.reading_laws.specs.Spelled.{asRead}
-use Rattle.reading_laws.proofs.Accepting.{not-refused}
+use Rattle.reading.proofs.Answers.{not-refused}
 use Rattle.reading_laws.proofs.Joining.{accepted-short, text-accepted}
 use Rattle.reading_laws.proofs.Spelled.{text-as-read}
 use Rattle.canonical.specs.Canonical.{canonical}
@@ -21,14 +21,15 @@ use Rattle.canonical_laws.proofs.Shorter.{not-longer}
 use Rattle.read_forms.specs.declared.Statement as form
 use Rattle.read_forms.specs.Forms.{statementIn}
 use Rattle.read_statements.specs.Answers.{readAt}
-use Rattle.read_statements.proofs.Indexes.{in-front}
+use Rattle.reading_laws.proofs.Calls.{in-front}
 use Rattle.read_parts.specs.Apart.{apart}
 use Rattle.read_parts.specs.Meaning.{PartsFit}
 use Rattle.read_parts.proofs.Fitting.{statement-fits}
 use Rattle.print_writing.specs.Written.{Room, Written}
 use Rattle.print_writing.proofs.Going.{Going, going, told, further, no-more, room-first}
-use Rattle.print_render.specs.Text.{Accepted, pieceOf, Prints, restOf}
-use Rattle.print_render.proofs.Pieces.{canonical-pieces}
+use Rattle.print_render.specs.Text.{Accepted, Prints}
+use Rattle.canonical.specs.Lines.{pieceOf, restOf}
+use Rattle.canonical.proofs.Lines.{canonical-pieces}
 
 -- an accepted text is not too long, and so its canonical text has an index behind it
 pub canonical-short : (limit : ℕ) (s : List ℕ) (ss : List Statement) → readText limit s ≡ accepted ss → Room 0 (canonical ss)

@@ -7,7 +7,7 @@ use Rattle.reading.specs.Statement.{Statement}
 use Rattle.reading.specs.Answer.{Answer, accepted, refused}
 use Rattle.canonical.specs.Print.{printText}
 use Rattle.canonical_laws.specs.Forgotten.{forget}
-use Rattle.read_statements.specs.Answers.{counting, stating}
+use Rattle.reading.specs.Calls.{counting, stating}
 
 -- a statement with its names and symbols compared as bytes: where they stand is forgotten
 abbrev pub unplaced : Answer Statement → Answer Statement

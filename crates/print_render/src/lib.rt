@@ -5,21 +5,23 @@ ghost use lib.ListN.{length};
 ghost use Rattle.tokens.specs.Class.{classTable};
 ghost use Rattle.labels.specs.Table.{labelTable, keywordTable};
 ghost use Rattle.read_forms.specs.Forms.{statementIn};
-ghost use Rattle.canonical.specs.Print.{lengthOf, printText, fitting, output};
+ghost use Rattle.canonical.specs.Print.{printText, Answers};
 ghost use Rattle.read_parts.specs.Apart.{apart};
 ghost use Rattle.read_parts.specs.Meaning.{PartsFit};
 ghost use Rattle.print_writing.specs.Written.{Room, Written};
-ghost use Rattle.print_render.specs.Text.{Accepted, pieceOf, jointOf, Prints, printedAs, Answers, KeptAs};
+ghost use Rattle.words.specs.Word.{word, Below};
+ghost use Rattle.print_render.specs.Text.{Accepted, Prints, printedAs, KeptAs};
+ghost use Rattle.canonical.specs.Lines.{pieceOf, jointOf};
 ghost use Rattle.reading_laws.specs.Admitted.{Admitted};
 use labels::Keywords;
 use labels::Labels;
+use read_forms::Admission;
 use read_forms::Feature;
 use read_forms::Modes;
 use read_forms::Refusal;
 use read_forms::Statement;
-use read_statements::Admission;
-use read_statements::CountRead;
 use read_statements::NextRead;
+use read_text::CountRead;
 use tokens::Classes;
 use tokens::Cursor;
 
@@ -29,34 +31,17 @@ pub enum Printed {
     Refused(Refusal),
 }
 
-// The `;` before every statement but the first.
-pub fn put_joint(n: usize, out: &mut [u8], at: usize) -> usize
-    requires { ⌜ Room at (jointOf n) ⌝ }
-    ensures { λ r. ⌜ Written (now (out .entry)) at (jointOf n) (now (out .exit)) r ⌝ }
-{
-    if n == 0 {
-        return at;
+impl Printed {
+    // Print's word for programs in other languages.
+    pub fn word(self) -> u64
+        requires { ⌜ Below (printedAs self) ⌝ }
+        ensures { λ r. ⌜ r ≡ word (printedAs self) ⌝ }
+    {
+        match self {
+            Printed::Length(n) => words::number_word(n),
+            Printed::Refused(refusal) => words::refusal_word(refusal),
+        }
     }
-    print_writing::put(out, at, b';')
-}
-
-// A statement, where `n` were printed before.
-fn put_next(
-    text: &[u8],
-    classes: &Classes,
-    labels: &Labels,
-    keys: &Keywords,
-    n: usize,
-    statement: Statement,
-    out: &mut [u8],
-    at: usize,
-) -> usize
-    requires { ⌜ (now classes ≡ classTable) × (now labels ≡ labelTable) × (now keys ≡ keywordTable) × PartsFit (now text) (apart statement)
-        × Room at (pieceOf n (statementIn (now text) statement)) ⌝ }
-    ensures { λ r. ⌜ Written (now (out .entry)) at (pieceOf n (statementIn (now (text .entry)) statement)) (now (out .exit)) r ⌝ }
-{
-    let next = put_joint(n, out, at);
-    print_statements::put_statement(text, classes, labels, keys, statement, out, next)
 }
 
 // The canonical text of a text that is accepted, as far as the buffer has room, and its length.
@@ -77,7 +62,7 @@ fn put_text(
     loop {
         match read_statements::next_statement(text, classes, labels, keys, cur, n, limit) {
             NextRead::Statement(form, next) => {
-                at = put_next(text, classes, labels, keys, n, form, out, at);
+                at = print_statements::put_next(text, classes, labels, keys, n, form, out, at);
                 cur = next;
                 n += 1;
             }
@@ -98,7 +83,7 @@ fn print_accepted(
     limit: u32,
 ) -> Printed
     requires { ⌜ (now classes ≡ classTable) × (now labels ≡ labelTable) × (now keys ≡ keywordTable) × Accepted limit (now text) ⌝ }
-    ensures { λ r. ⌜ Answers (printText limit (now (text .entry))) (now (out .entry)) (now (out .exit)) r ⌝ }
+    ensures { λ r. ⌜ Answers (printText limit (now (text .entry))) (now (out .entry)) (now (out .exit)) (printedAs r) ⌝ }
 {
     if text.len() <= out.len() {
         return Printed::Length(put_text(text, classes, labels, keys, out, limit));
@@ -173,7 +158,7 @@ fn print_few(
     let mut at = 0;
     while i < n {
         let form = forms[i];
-        at = put_next(text, classes, labels, keys, i, form, out, at);
+        at = print_statements::put_next(text, classes, labels, keys, i, form, out, at);
         i += 1;
     }
     Kept::Length(at)
@@ -213,7 +198,7 @@ fn print_many(
     let mut at = 0;
     while i < count {
         let form = forms[i];
-        at = put_next(text, classes, labels, keys, i, form, out, at);
+        at = print_statements::put_next(text, classes, labels, keys, i, form, out, at);
         i += 1;
     }
     Kept::Length(at)
@@ -245,9 +230,9 @@ fn print_kept(
 // The canonical text of a text, or why it is refused: the text is read to know whether it is accepted, and again to print it. No form is kept,
 // so that it can be printed twice, the first time to measure it.
 fn print_twice(text: &[u8], out: &mut [u8], limit: u32) -> Printed
-    ensures { λ r. ⌜ Answers (printText limit (now (text .entry))) (now (out .entry)) (now (out .exit)) r ⌝ }
+    ensures { λ r. ⌜ Answers (printText limit (now (text .entry))) (now (out .entry)) (now (out .exit)) (printedAs r) ⌝ }
 {
-    match read_statements::count_under(text, limit) {
+    match read_text::count_under(text, limit) {
         CountRead::Refused(r) => Printed::Refused(r),
         CountRead::Count(_) => {
             let classes = tokens::CLASSES;
@@ -261,9 +246,9 @@ fn print_twice(text: &[u8], out: &mut [u8], limit: u32) -> Printed
 // The canonical text of a text, or why it is refused. Nothing is written before it is known that the text is accepted and that the canonical
 // text has room.
 pub fn print_under(text: &[u8], out: &mut [u8], limit: u32) -> Printed
-    ensures { λ r. ⌜ Answers (printText limit (now (text .entry))) (now (out .entry)) (now (out .exit)) r ⌝ }
+    ensures { λ r. ⌜ Answers (printText limit (now (text .entry))) (now (out .entry)) (now (out .exit)) (printedAs r) ⌝ }
 {
-    match read_statements::admit(text, limit) {
+    match read_forms::admit(text, limit) {
         Admission::Refused(r) => {
             return Printed::Refused(r);
         }
@@ -284,8 +269,7 @@ pub fn print_under(text: &[u8], out: &mut [u8], limit: u32) -> Printed
 
 // The canonical text of a text.
 pub fn print(text: &[u8], out: &mut [u8]) -> Printed
-    ensures { λ r. ⌜ printedAs r ≡ lengthOf (fitting (length (now (out .entry))) (printText 64 (now (text .entry)))) ⌝ }
-    ensures { λ _. ⌜ now (out .exit) ≡ output (fitting (length (now (out .entry))) (printText 64 (now (text .entry)))) (now (out .entry)) ⌝ }
+    ensures { λ r. ⌜ Answers (printText 64 (now (text .entry))) (now (out .entry)) (now (out .exit)) (printedAs r) ⌝ }
 {
     print_under(text, out, 64)
 }

@@ -24,7 +24,8 @@ use Rattle.canonical.specs.Canonical.{
 }
 use Rattle.read_forms.specs.declared.Statement.{Statement}
 use Rattle.read_forms.specs.Forms.{statementIn}
-use Rattle.print_parts.proofs.Bytes.{spell-append, spell-one, spell-name}
+use Rattle.print_parts.proofs.Bytes.{spell-one, spell-name}
+use Rattle.tokens.proofs.Spelling.{spell-append}
 use Rattle.read_parts.specs.declared.Part as form
 use Rattle.read_parts.specs.declared.Part.the-variants as variant
 use Rattle.read_parts.specs.declared.Parts.{Parts}

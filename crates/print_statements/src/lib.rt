@@ -9,6 +9,7 @@ ghost use Rattle.tokens.specs.Spelling.{spellAll};
 ghost use Rattle.labels.specs.Label.{keywords};
 ghost use Rattle.labels.specs.Table.{labelTable, keywordTable};
 ghost use Rattle.canonical.specs.Canonical.{argumentShapes, questionMark, operatorShapes, statementShapes};
+ghost use Rattle.canonical.specs.Lines.{jointOf, pieceOf};
 ghost use Rattle.read_forms.specs.Forms.{opAs, statementIn};
 ghost use Rattle.print_writing.specs.Written.{Room, Written};
 ghost use Rattle.read_parts.specs.Apart.{apart, isWritten};
@@ -182,4 +183,34 @@ pub fn put_statement(
         out,
         at,
     )
+}
+
+// The `;` before every statement but the first.
+pub fn put_joint(n: usize, out: &mut [u8], at: usize) -> usize
+    requires { ⌜ Room at (jointOf n) ⌝ }
+    ensures { λ r. ⌜ Written (now (out .entry)) at (jointOf n) (now (out .exit)) r ⌝ }
+{
+    if n == 0 {
+        return at;
+    }
+    print_writing::put(out, at, b';')
+}
+
+// A statement, where `n` were printed before.
+pub fn put_next(
+    text: &[u8],
+    classes: &Classes,
+    labels: &Labels,
+    keys: &Keywords,
+    n: usize,
+    statement: Statement,
+    out: &mut [u8],
+    at: usize,
+) -> usize
+    requires { ⌜ (now classes ≡ classTable) × (now labels ≡ labelTable) × (now keys ≡ keywordTable) × PartsFit (now text) (apart statement)
+        × Room at (pieceOf n (statementIn (now text) statement)) ⌝ }
+    ensures { λ r. ⌜ Written (now (out .entry)) at (pieceOf n (statementIn (now (text .entry)) statement)) (now (out .exit)) r ⌝ }
+{
+    let next = put_joint(n, out, at);
+    put_statement(text, classes, labels, keys, statement, out, next)
 }

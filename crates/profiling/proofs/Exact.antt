@@ -10,9 +10,9 @@ use lib.ListN.{length}
 use Rattle.reading.specs.Statement.{Statement}
 use Rattle.reading.specs.Answer.{Answer, accepted, _>>=_}
 use Rattle.reading.specs.Read.{readText}
-use Rattle.resolving.specs.Lists.{any, keep}
-use Rattle.resolving_laws.proofs.All.{neither-one}
-use Rattle.resolving_laws.proofs.Passed.{bind-passed}
+use Rattle.text.specs.Lists.{any, keep}
+use Rattle.text.proofs.All.{neither-one}
+use Rattle.reading.proofs.Answers.{bind-passed}
 use Rattle.profiling.specs.Profile.{
   Mark,
   outside,

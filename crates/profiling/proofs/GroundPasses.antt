@@ -31,7 +31,7 @@ use Rattle.reading.specs.Statement.{
 use Rattle.reading.specs.Answer.{Answer, accepted, refused, _>>=_}
 use Rattle.reading.specs.Read.{readText}
 use Rattle.canonical_laws.specs.Forgotten.{forget}
-use Rattle.resolving.specs.Lists.{any, gather, isNil}
+use Rattle.text.specs.Lists.{any, gather, isNil}
 use Rattle.resolving.specs.Context.{Context, covariates}
 use Rattle.resolving.specs.Symbols.{Meaning, lets, lookUp}
 use Rattle.resolving.specs.Operands.{entryOf, parametersOf, covariatesOf}
@@ -41,8 +41,9 @@ use Rattle.resolving.specs.Merging.{merged}
 use Rattle.resolving.specs.Ground.{Group, groups, formsIn, groundCovariate, groundEffects, staying, ground}
 use Rattle.resolving.specs.Resolve.{Resolved, groundText, resolve}
 use Rattle.resolving.specs.Given.{Given, isContext, contextIn, resolveText}
-use Rattle.resolving_laws.proofs.All.{neither-one}
-use Rattle.resolving_laws.proofs.Passed.{refused≢accepted, bind-passed, Each, none-asked, answered, answered-each}
+use Rattle.text.proofs.All.{neither-one}
+use Rattle.resolving_laws.proofs.Passed.{Each, none-asked, answered, answered-each}
+use Rattle.reading.proofs.Answers.{not-refused, bind-passed}
 use Rattle.resolving_laws.proofs.Settling.{resolved-as}
 use Rattle.resolving_laws.proofs.Rereading.{text-reread}
 use Rattle.resolving_laws.proofs.GivenReadable.{given-readable}
@@ -120,7 +121,7 @@ leaves-bind (refused n p) f h = refuses
 
 has-left : {m : Mark} {a : Answer Brought} {b : Brought} → Leaves m a → a ≡ accepted b → Stayed m (staying b)
 has-left {m} {b = b} (leaves {b = d} h) e = let z : d ≡ b = cc in subst (λ (x : Brought). Stayed m (staying x)) z h
-has-left refuses e = absurd (refused≢accepted e)
+has-left refuses e = absurd (not-refused e)
 
 dropped-or-left : (t : Bool) (f : Feature) → Stayed (featureMark f) (staying (dropIf t (stays f)))
 dropped-or-left true f = gone
@@ -227,7 +228,7 @@ in-context :
     (t : Bool) (a : Answer Resolved) (n : ℕ) {r : Resolved} → cond t a (refused n 0) ≡ accepted r
     → (t ≡ true) × (a ≡ accepted r)
 in-context true a n e = (refl, e)
-in-context false a n e = absurd (refused≢accepted e)
+in-context false a n e = absurd (not-refused e)
 
 -- Where a text that passes has a ground text in any context, that passes under the same ceiling.
 pub ground-passes :

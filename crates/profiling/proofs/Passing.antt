@@ -1,16 +1,12 @@
 -- Statements that pass have passed each of the three tests.
 -- Assumes nothing.
 use Prim.Native.Nat.{ℕ, suc}
-use mathlib.Core.Path.{_≡_, refl}
-use mathlib.Core.Bool.{Bool, true, false, cond}
+use mathlib.Core.Path.{_≡_}
+use mathlib.Core.Bool.{false}
 use mathlib.Core.List.{List, _∷_}
-use Rattle.reading.specs.Answer.{Answer, accepted, refused}
-use Rattle.resolving_laws.proofs.Passed.{refused≢accepted}
+use Rattle.reading.specs.Answer.{accepted}
+use Rattle.reading.proofs.Answers.{passed-test}
 use Rattle.profiling.specs.Profile.{Mark, isOutside, isSecond, hasHigh, profileFrom}
-
-passed-test : {A : Type 0} {r : A} (t : Bool) (n i : ℕ) (a : Answer A) → cond t (refused n i) a ≡ accepted r → (t ≡ false) × (a ≡ accepted r)
-passed-test true n i a e = absurd (refused≢accepted e)
-passed-test false n i a e = (refl, e)
 
 -- the first of statements that pass, and those behind it
 pub record Passed (i : ℕ) (seen : List Mark) (m : Mark) (ms : List Mark) : Type 0 where

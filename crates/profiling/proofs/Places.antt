@@ -9,7 +9,7 @@ use lib.ListN.{length, length-map}
 use Rattle.reading.specs.Statement.{Statement}
 use Rattle.reading.specs.Answer.{Answer, accepted, refused, _>>=_}
 use Rattle.reading.specs.Read.{readText}
-use Rattle.resolving_laws.proofs.Passed.{refused≢accepted}
+use Rattle.reading.proofs.Answers.{not-refused}
 use Rattle.profiling.specs.Profile.{Mark, markOf, isOutside, isSecond, hasHigh, Yes, profileFrom, profileOf, profileText}
 use Rattle.profiling.specs.Refused.{RefusedBy, by-reading, by-profile}
 
@@ -33,7 +33,7 @@ tested false k i a l m e f = f e
 
 from-within : (i : ℕ) (seen ms : List Mark) {n p : ℕ} → profileFrom i seen ms ≡ refused n p → Within n p i (length ms)
 unfolding profileFrom
-from-within i seen [] e = absurd (refused≢accepted (sym e))
+from-within i seen [] e = absurd (not-refused (sym e))
 from-within i seen (m ∷ ms) {n} {p} e =
     tested (isOutside m) 22 i _ (omega arith) (omega arith) e
     (λ f.

@@ -7,7 +7,7 @@ use lib.ListN.{length}
 use Rattle.reading.specs.Statement.{Statement}
 use Rattle.reading.specs.Answer.{accepted}
 use Rattle.reading.specs.Read.{readText}
-use Rattle.resolving.specs.Lists.{any, keep}
+use Rattle.text.specs.Lists.{any, keep}
 use Rattle.profiling.specs.Profile.{markOf, isOutside, isOf, hasHigh}
 
 -- how many statements there are of one of the five

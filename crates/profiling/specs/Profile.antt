@@ -31,9 +31,9 @@ use Rattle.reading.specs.Statement.{
   Let,
   feature,
 }
-use Rattle.reading.specs.Answer.{Answer, accepted, refused, _>>=_}
+use Rattle.reading.specs.Answer.{Answer, accepted, refusedIf, _>>=_}
 use Rattle.reading.specs.Read.{readText}
-use Rattle.resolving.specs.Lists.{any}
+use Rattle.text.specs.Lists.{any}
 
 -- "no count above 10": the highest count of a range is its right end, and N is none
 abbrev pub isHigh : ℕ → Bool
@@ -115,9 +115,9 @@ Yes = Unit {0}
 unfoldable pub profileFrom : ℕ → List Mark → List Mark → Answer Yes
 profileFrom i seen [] = accepted tt
 profileFrom i seen (m ∷ ms) =
-    cond (isOutside m) (refused outsideProfile i)
-    (cond (isSecond seen m) (refused secondStatement i)
-    (cond (hasHigh m) (refused countAboveTen i)
+    refusedIf (isOutside m) outsideProfile i
+    (refusedIf (isSecond seen m) secondStatement i
+    (refusedIf (hasHigh m) countAboveTen i
     (profileFrom (suc i) (m ∷ seen) ms)))
 
 unfoldable pub profileOf : List Statement → Answer Yes

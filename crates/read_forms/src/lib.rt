@@ -5,6 +5,7 @@ ghost use mathlib.Core.Path.{_≡_};
 ghost use Rattle.counts.specs.Count.{countOf};
 ghost use Rattle.read_forms.specs.Items.{nameIn};
 ghost use Rattle.read_forms.specs.Fits.{InText};
+ghost use Rattle.read_forms.specs.Admission.{AdmissionAs};
 use counts::Counted;
 use tokens::Cursor;
 
@@ -179,6 +180,16 @@ pub enum Statement {
     Feature(Feature),
 }
 
+// A name's bytes, as a part of the text.
+pub fn spelling(text: &[u8], name: Name) -> &[u8]
+    requires { ⌜ InText (now text) name ⌝ }
+    ensures { λ r. ⌜ now r ≡ nameIn (now (text .entry)) name .spelling ⌝ }
+{
+    let start = name.offset;
+    let end = start + name.length;
+    &text[start..end]
+}
+
 // A number of the text as a count.
 pub fn count_at(text: &[u8], name: Name, limit: u32) -> Counted
     requires { ⌜ InText (now text) name ⌝ }
@@ -187,4 +198,29 @@ pub fn count_at(text: &[u8], name: Name, limit: u32) -> Counted
     let start = name.offset;
     let end = start + name.length;
     counts::count_of(&text[start..end], limit)
+}
+
+// Whether a text is read at all, or why it is not.
+pub enum Admission {
+    Fine,
+    Refused(Refusal),
+}
+
+// What comes before reading: the ceiling for counts, and then the text's length.
+pub fn admit(text: &[u8], limit: u32) -> Admission
+    ensures { λ r. ⌜ AdmissionAs limit (now (text .entry)) r ⌝ }
+{
+    if 256 < limit {
+        return Admission::Refused(Refusal {
+            number: CEILING_TOO_HIGH,
+            place: 0,
+        });
+    }
+    if 16384 < text.len() {
+        return Admission::Refused(Refusal {
+            number: TOO_LONG,
+            place: 0,
+        });
+    }
+    Admission::Fine
 }

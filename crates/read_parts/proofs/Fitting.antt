@@ -8,13 +8,13 @@ use mathlib.Core.Bool.{Bool, true, false, _&&_, false≢true}
 use mathlib.Core.List.{List, [], _∷_, _++_, map}
 use borrow.Author.Tests.{ltb-true}
 use lib.ListN.{length, drop, length-take, length-drop}
-use Rattle.token_laws.specs.Shaped.{all}
-use Rattle.token_laws.proofs.Tests.{and-left, and-right}
+use Rattle.text.specs.Lists.{all}
+use Rattle.text.proofs.Tests.{and-left, and-right}
 use Rattle.reading.specs.Statement.{Item}
 use Rattle.reading.specs.Parts as reading
 use Rattle.reading_laws.specs.WellFormed.{oneTo64, withinLimit, wellNamed, wellItem, wellPart, wellParts, wellFormed}
 use Rattle.reading_laws.specs.Spelled.{endOf, endsBefore, placedPart, asRead}
-use Rattle.reading_laws.proofs.Tests.{all-left, all-right}
+use Rattle.text.proofs.Passing.{all-left, all-right}
 use Rattle.reading_laws.proofs.Parts.{parts-well}
 use Rattle.read_forms.specs.declared.Counts.the-variants as counts
 use Rattle.read_forms.specs.declared.Operand.the-variants as operand

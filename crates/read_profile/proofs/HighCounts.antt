@@ -8,7 +8,7 @@ use mathlib.Core.List.{List, [], _∷_}
 use denote.Enum.Declared.{tagOf}
 use types.Run.{OneOf, miss}
 use Rattle.reading.specs.Statement.{Item}
-use Rattle.resolving.specs.Lists.{any}
+use Rattle.text.specs.Lists.{any}
 use Rattle.profiling.specs.Profile.{isHigh}
 use Rattle.read_forms.specs.declared.Items.{Items}
 use Rattle.read_forms.specs.Items.{tokensFrom, entries, rest, listed, itemsIn}

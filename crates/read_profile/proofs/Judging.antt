@@ -11,7 +11,7 @@ use lib.ListN.{length, getD, set, length-set}
 use lib.Seq.{slice, slice-cons, slice-empty, getD-set-same, getD-set-other}
 use borrow.Author.Tests.{eqb-true, eqb-false}
 use Rattle.reading.specs.Answer.{accepted, refused}
-use Rattle.resolving.specs.Lists.{any}
+use Rattle.text.specs.Lists.{any}
 use Rattle.profiling.specs.Profile.{Mark, outside, plain, once, markOf, isOf, profileFrom}
 use Rattle.read_forms.specs.declared.Statement as form
 use Rattle.read_parts.specs.Apart.{apart}

@@ -40,3 +40,8 @@ Numbered (Once k h) = k < 5
 unfoldable pub profiledAs : Profiled → Answer Yes
 profiledAs Fits = accepted tt
 profiledAs (Refused r) = refused (r .number) (r .place)
+
+-- yes, as a number
+abbrev pub yesAsZero : Answer Yes → Answer ℕ
+yesAsZero (accepted y) = accepted 0
+yesAsZero (refused k p) = refused k p

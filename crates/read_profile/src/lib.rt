@@ -3,7 +3,7 @@ ghost use mathlib.Core.Path.{_≡_};
 ghost use Rattle.tokens.specs.Class.{classTable};
 ghost use Rattle.labels.specs.Table.{labelTable, keywordTable};
 ghost use Rattle.reading_laws.specs.Admitted.{Admitted};
-ghost use Rattle.resolving.specs.Lists.{any};
+ghost use Rattle.text.specs.Lists.{any};
 ghost use Rattle.profiling.specs.Profile.{isHigh, highCounts, markOf, profileOf, profileText};
 ghost use Rattle.read_forms.specs.Items.{itemsIn};
 ghost use Rattle.read_forms.specs.Forms.{valuesIn, countsIn, statementIn};
@@ -12,9 +12,11 @@ ghost use Rattle.read_parts.specs.Apart.{apart};
 ghost use Rattle.read_parts.specs.Meaning.{CountsFit, PartFits, PartsFit};
 ghost use Rattle.read_space.specs.Space.{Whole, statementsIn};
 ghost use Rattle.read_space.specs.Fit.{FitAll};
-ghost use Rattle.read_profile.specs.Answers.{highPart, markAs, Numbered, profiledAs};
+ghost use Rattle.words.specs.Word.{word, Below};
+ghost use Rattle.read_profile.specs.Answers.{highPart, markAs, Numbered, profiledAs, yesAsZero};
 use labels::Keywords;
 use labels::Labels;
+use read_forms::Admission;
 use read_forms::Counts;
 use read_forms::Items;
 use read_forms::Refusal;
@@ -22,7 +24,6 @@ use read_forms::Statement;
 use read_parts::Part;
 use read_space::Ending;
 use read_space::Space;
-use read_statements::Admission;
 use tokens::Classes;
 
 // The faults of the profile by their numbers.
@@ -39,6 +40,19 @@ const HIGHEST: u32 = 10;
 pub enum Profiled {
     Fits,
     Refused(Refusal),
+}
+
+impl Profiled {
+    // The profile's word for programs in other languages: yes is 0.
+    pub fn word(self) -> u64
+        requires { ⌜ Below (yesAsZero (profiledAs self)) ⌝ }
+        ensures { λ r. ⌜ r ≡ word (yesAsZero (profiledAs self)) ⌝ }
+    {
+        match self {
+            Profiled::Fits => words::number_word(0),
+            Profiled::Refused(refusal) => words::refusal_word(refusal),
+        }
+    }
 }
 
 // What a statement is to the profile: of a feature outside it; of one of the five that may stand once, which one, and whether it has a count
@@ -170,7 +184,7 @@ fn profile_admitted(
 pub fn profile_under(text: &[u8], limit: u32) -> Profiled
     ensures { λ r. ⌜ profiledAs r ≡ profileText limit (now (text .entry)) ⌝ }
 {
-    match read_statements::admit(text, limit) {
+    match read_forms::admit(text, limit) {
         Admission::Refused(r) => {
             return Profiled::Refused(r);
         }

@@ -4,7 +4,6 @@ use mathlib.Core.Path.{_≡_, refl, _∙_, ap, sym}
 use mathlib.Core.Bool.{Bool, true, false, cond}
 use mathlib.Core.List.{List, []}
 use Prim.Native.Nat.{ℕ, suc, _≤_, _<_}
-use native.Mathlib.Nat.{add-suc, suc-add}
 use native.Mathlib.Omega.{arith}
 use borrow.Author.Tests.{ne-eqb, le-leb, lt-leb}
 use lib.Dec.{leb}
@@ -24,7 +23,7 @@ use Rattle.tokens.proofs.Steps.{token, at-end}
 use Rattle.tokens.proofs.Views.{Reads, Known, aWord, aNumber, aMark, aStray, theEnd}
 use Rattle.read_statements.specs.declared.NextRead.{NextRead}
 use Rattle.read_statements.specs.declared.NextRead.the-variants as nextRead
-use Rattle.read_statements.specs.Answers.{readAt, oneThen, NextFrom, NextFurther, crowdedBy, counted}
+use Rattle.read_statements.specs.Answers.{readAt, oneThen, NextFrom, NextFurther, crowdedBy}
 
 step-then :
     (limit size n : ℕ) (ts : Tokens) (x : Step)
@@ -122,22 +121,6 @@ ends-at (aNumber e r) k = absurd (omega arith)
 ends-at (aMark e r) k = absurd (omega arith)
 ends-at (aStray e r q) k = absurd (omega arith)
 ends-at (theEnd e r l q) k = q
-
--- one statement more is one more to count
-pub counted-more : (n : ℕ) (s : Statement) (a : Answer (List Statement)) → counted n (prepend s a) ≡ counted (suc n) a
-counted-more n s (accepted ss) = ap accepted (add-suc n (length ss) ∙ sym (suc-add n (length ss)))
-counted-more n s (refused k p) = refl
-
--- a count is one of a text that is accepted
-pub counted-accepted :
-    (n m : ℕ) (a : Answer (List Statement)) → counted n a ≡ accepted m → (ss : List Statement) × (a ≡ accepted ss)
-counted-accepted n m (accepted ss) e = (ss, refl)
-counted-accepted n m (refused k p) e = absurd (let z : _≡_ {A = ℕ} 0 1 = cc in omega arith)
-
--- a refusal stays one
-pub counted-refused : (n k p : ℕ) (a : Answer (List Statement)) → counted n a ≡ refused k p → a ≡ refused k p
-counted-refused n k p (accepted ss) e = absurd (let z : _≡_ {A = ℕ} 0 1 = cc in omega arith)
-counted-refused n k p (refused k' p') e = cc
 
 -- A statement that ends behind an offset ends behind an earlier one.
 pub from-sooner : (s : List ℕ) (o p : ℕ) (r : NextRead) → NextFrom s p r → o ≤ p → NextFrom s o r

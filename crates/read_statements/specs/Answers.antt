@@ -1,11 +1,10 @@
 -- What the answers of the functions that read statements mean, as answers of the definition of reading.
-use Prim.Native.Nat.{ℕ, suc, _+_, _<_, _≤_}
+use Prim.Native.Nat.{ℕ, suc, _<_, _≤_}
 use mathlib.Core.Bool.{cond}
 use mathlib.Core.List.{List, []}
-use mathlib.Core.Option.{Option, some, none}
 use mathlib.Core.Path.{_≡_}
 use lib.Dec.{eqb, leb}
-use lib.ListN.{length, getElem?}
+use lib.ListN.{length}
 use Rattle.tokens.specs.declared.Token as lexer
 use Rattle.tokens.specs.Next.{tokenAt}
 use Rattle.reading.specs.Statement.{Statement}
@@ -16,18 +15,10 @@ use Rattle.reading.specs.One.{One, whole, halted}
 use Rattle.read_forms.specs.declared.Refusal.{Refusal}
 use Rattle.read_forms.specs.Items.{tokensFrom}
 use Rattle.read_forms.specs.Forms.{statementIn}
-use Rattle.read_statements.specs.declared.Admission.{Admission}
-use Rattle.read_statements.specs.declared.Admission.the-variants as admission
 use Rattle.read_statements.specs.declared.Ended.{Ended}
 use Rattle.read_statements.specs.declared.Ended.the-variants as ended
 use Rattle.read_statements.specs.declared.NextRead.{NextRead}
 use Rattle.read_statements.specs.declared.NextRead.the-variants as nextRead
-use Rattle.read_statements.specs.declared.StatementAt.{StatementAt}
-use Rattle.read_statements.specs.declared.StatementAt.the-variants as statementAt
-use Rattle.read_statements.specs.declared.NthRead.{NthRead}
-use Rattle.read_statements.specs.declared.NthRead.the-variants as nthRead
-use Rattle.read_statements.specs.declared.CountRead.{CountRead}
-use Rattle.read_statements.specs.declared.CountRead.the-variants as countRead
 
 -- the statements of a text from an offset on, after so many
 abbrev pub readAt : ℕ → List ℕ → ℕ → Where → ℕ → Answer (List Statement)
@@ -76,11 +67,6 @@ NextFurther s n o (nextRead.Statement f c) = (o < c .at) × (c .at ≤ length s)
 NextFurther s n o nextRead.End = Unit {0}
 NextFurther s n o (nextRead.Refused r) = Unit {0}
 
--- what is looked at before a text is read
-abbrev pub AdmissionAs : ℕ → List ℕ → Admission → Type 0
-AdmissionAs limit s admission.Fine = Admitted limit s
-AdmissionAs limit s (admission.Refused r) = readText limit s ≡ refused (r .number) (r .place)
-
 -- what the refusal of a text's statements is for the whole text, where that is admitted
 abbrev pub FirstFault : List ℕ → Refusal → Refusal → Type 0
 FirstFault s x r =
@@ -88,43 +74,3 @@ FirstFault s x r =
     → Admitted limit s
     → readAt limit s 0 between 0 ≡ refused (x .number) (x .place)
     → readText limit s ≡ refused (r .number) (r .place)
-
--- how many statements there are, after so many
-abbrev pub counted : ℕ → Answer (List Statement) → Answer ℕ
-counted n (accepted ss) = accepted (n + length ss)
-counted n (refused k p) = refused k p
-
-unfoldable pub countAs : CountRead → Answer ℕ
-countAs (countRead.Count n) = accepted n
-countAs (countRead.Refused r) = refused (r .number) (r .place)
-
--- the statement at an index of those that were read, if there are so many
-abbrev pub indexed : ℕ → Answer (List Statement) → Answer (Option Statement)
-indexed i (accepted ss) = accepted (getElem? ss i)
-indexed i (refused k p) = refused k p
-
-unfoldable pub nthAs : List ℕ → NthRead → Answer (Option Statement)
-nthAs s (nthRead.Statement f) = accepted (some (statementIn s f))
-nthAs s nthRead.Missing = accepted none
-nthAs s (nthRead.Refused r) = refused (r .number) (r .place)
-
--- the statement at an index; 20 where there are not so many
-abbrev pub chosen : ℕ → Option Statement → Answer Statement
-chosen i none = refused 20 i
-chosen i (some s) = accepted s
-
-abbrev pub nthOf : ℕ → Answer (List Statement) → Answer Statement
-nthOf i (accepted ss) = chosen i (getElem? ss i)
-nthOf i (refused k p) = refused k p
-
-unfoldable pub statementAs : List ℕ → StatementAt → Answer Statement
-statementAs s (statementAt.Statement f) = accepted (statementIn s f)
-statementAs s (statementAt.Refused r) = refused (r .number) (r .place)
-
--- What the calls answer, for every text and index: their contracts say that Count's answer means `counting limit text`, and Statement's
--- `stating limit text index`. The limit is the ceiling for counts.
-abbrev pub counting : ℕ → List ℕ → Answer ℕ
-counting limit text = counted 0 (readText limit text)
-
-abbrev pub stating : ℕ → List ℕ → ℕ → Answer Statement
-stating limit text index = nthOf index (readText limit text)

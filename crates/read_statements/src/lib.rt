@@ -1,4 +1,4 @@
-// The statements of a text, one after the other.
+// The next statement of a text.
 ghost use mathlib.Core.Path.{_≡_};
 ghost use Prim.Native.Nat.{ℕ, suc, _≤_, _<_};
 ghost use lib.ListN.{length};
@@ -17,14 +17,13 @@ ghost use Rattle.read_forms.specs.Items.{nameIn, tokensFrom};
 ghost use Rattle.read_forms.specs.Forms.{argIn, argsIn, statementIn};
 ghost use Rattle.read_forms.specs.Fits.{InText, Fits, AllFit};
 ghost use Rattle.read_arguments.specs.Answers.{stepIn};
-ghost use Rattle.read_statements.specs.Answers.{oneThen, NextFrom, FirstToken, EndedThen, EndedFurther, crowdedBy, readAt, nextThen, NextFurther, AdmissionAs, FirstFault, counted, countAs, indexed, nthAs, statementAs, counting, stating};
+ghost use Rattle.read_statements.specs.Answers.{oneThen, NextFrom, FirstToken, EndedThen, EndedFurther, crowdedBy, readAt, nextThen, NextFurther, FirstFault};
 use labels::Keywords;
 use labels::Labels;
 use read_checks::ItemsRead;
 use read_features::Built;
 use read_forms::Arg;
 use read_forms::Args;
-use read_forms::Items;
 use read_forms::Name;
 use read_forms::Refusal;
 use read_forms::Statement;
@@ -34,12 +33,6 @@ use tokens::Classes;
 use tokens::Cursor;
 use tokens::Scanned;
 use tokens::Token;
-
-// Whether a text is read at all, or why it is not.
-pub enum Admission {
-    Fine,
-    Refused(Refusal),
-}
 
 // Whether a statement may end where it does, and if so the cursor from which reading goes on.
 pub enum Ended {
@@ -51,25 +44,6 @@ pub enum Ended {
 pub enum NextRead {
     Statement(Statement, Cursor),
     End,
-    Refused(Refusal),
-}
-
-// A statement of a text, or why there is none.
-pub enum StatementAt {
-    Statement(Statement),
-    Refused(Refusal),
-}
-
-// The statement at an index among those that were read to the text's end, that there are not so many, or a refusal.
-enum NthRead {
-    Statement(Statement),
-    Missing,
-    Refused(Refusal),
-}
-
-// How many statements a text has, or why it is refused.
-pub enum CountRead {
-    Count(usize),
     Refused(Refusal),
 }
 
@@ -284,31 +258,6 @@ pub fn next_statement(
     statement(text, classes, labels, keys, name, next, n, limit)
 }
 
-// The number of statements, where the text's bytes are in order.
-fn count_from(
-    text: &[u8],
-    classes: &Classes,
-    labels: &Labels,
-    keys: &Keywords,
-    limit: u32,
-) -> CountRead
-    requires { ⌜ (now classes ≡ classTable) × (now labels ≡ labelTable) × (now keys ≡ keywordTable) ⌝ }
-    ensures { λ r. ⌜ countAs r ≡ counted 0 (readAt limit (now (text .entry)) 0 between 0) ⌝ }
-{
-    let mut n = 0;
-    let mut cur = Cursor::new();
-    loop {
-        match next_statement(text, classes, labels, keys, cur, n, limit) {
-            NextRead::Statement(_, c) => {
-                cur = c;
-                n += 1;
-            }
-            NextRead::End => return CountRead::Count(n),
-            NextRead::Refused(r) => return CountRead::Refused(r),
-        }
-    }
-}
-
 // The refusal of a text whose statements were refused: a byte that starts no token comes before every other fault but the length.
 pub fn earliest(text: &[u8], classes: &Classes, refusal: Refusal) -> Refusal
     requires { ⌜ now classes ≡ classTable ⌝ }
@@ -320,111 +269,5 @@ pub fn earliest(text: &[u8], classes: &Classes, refusal: Refusal) -> Refusal
             place: at,
         },
         Scanned::Whole => refusal,
-    }
-}
-
-// What comes before reading: the ceiling for counts, and then the text's length.
-pub fn admit(text: &[u8], limit: u32) -> Admission
-    ensures { λ r. ⌜ AdmissionAs limit (now (text .entry)) r ⌝ }
-{
-    if 256 < limit {
-        return Admission::Refused(Refusal {
-            number: read_forms::CEILING_TOO_HIGH,
-            place: 0,
-        });
-    }
-    if 16384 < text.len() {
-        return Admission::Refused(Refusal {
-            number: read_forms::TOO_LONG,
-            place: 0,
-        });
-    }
-    Admission::Fine
-}
-
-// The number of statements of a text, or why it is refused.
-pub fn count_under(text: &[u8], limit: u32) -> CountRead
-    ensures { λ r. ⌜ countAs r ≡ counting limit (now (text .entry)) ⌝ }
-{
-    match admit(text, limit) {
-        Admission::Refused(r) => {
-            return CountRead::Refused(r);
-        }
-        Admission::Fine => {}
-    }
-    let classes = tokens::CLASSES;
-    let labels = labels::LABELS;
-    let keys = labels::KEYWORDS;
-    match count_from(text, &classes, &labels, &keys, limit) {
-        CountRead::Count(n) => CountRead::Count(n),
-        CountRead::Refused(r) => CountRead::Refused(earliest(text, &classes, r)),
-    }
-}
-
-// The statement at an index, in one reading of the text. It is kept where it comes by (before that any form stands for it), and reading goes
-// on to the end, for a fault behind it refuses the text.
-fn nth(
-    text: &[u8],
-    classes: &Classes,
-    labels: &Labels,
-    keys: &Keywords,
-    index: usize,
-    limit: u32,
-) -> NthRead
-    requires { ⌜ (now classes ≡ classTable) × (now labels ≡ labelTable) × (now keys ≡ keywordTable) ⌝ }
-    ensures { λ r. ⌜ nthAs (now (text .entry)) r ≡ indexed index (readAt limit (now (text .entry)) 0 between 0) ⌝ }
-{
-    let mut n = 0;
-    let mut cur = Cursor::new();
-    let mut kept = Statement::Let {
-        name: Name {
-            offset: 0,
-            length: 0,
-        },
-        values: Items {
-            first: cur,
-            count: 0,
-        },
-    };
-    loop {
-        match next_statement(text, classes, labels, keys, cur, n, limit) {
-            NextRead::Statement(form, next) => {
-                if n == index {
-                    kept = form;
-                }
-                cur = next;
-                n += 1;
-            }
-            NextRead::End => {
-                if index < n {
-                    return NthRead::Statement(kept);
-                }
-                return NthRead::Missing;
-            }
-            NextRead::Refused(r) => return NthRead::Refused(r),
-        }
-    }
-}
-
-// The statement of a text at an index, or why it is refused: the faults of the whole text come before 20.
-pub fn statement_under(text: &[u8], index: usize, limit: u32) -> StatementAt
-    ensures { λ r. ⌜ statementAs (now (text .entry)) r ≡ stating limit (now (text .entry)) index ⌝ }
-{
-    match admit(text, limit) {
-        Admission::Refused(r) => {
-            return StatementAt::Refused(r);
-        }
-        Admission::Fine => {}
-    }
-    let classes = tokens::CLASSES;
-    let labels = labels::LABELS;
-    let keys = labels::KEYWORDS;
-    match nth(text, &classes, &labels, &keys, index, limit) {
-        NthRead::Statement(form) => StatementAt::Statement(form),
-        NthRead::Missing => StatementAt::Refused(Refusal {
-            number: read_forms::NO_STATEMENT,
-            place: index,
-        }),
-        NthRead::Refused(r) => StatementAt::Refused(earliest(text, &classes, r)),
     }
 }

@@ -1,6 +1,6 @@
 -- Document 01, Holding the calls to their word, 3: for all texts A and B that Count accepts, whose joined text has at most 16,384 bytes and
 -- 256 statements, Count of A, newline, B is the sum; Statement gives A's values, then B's with the offsets of their names and symbols raised
--- by A's length and one. Document 02, P1: "joined .. files share one ceiling". The contracts of `read_statements::count_under` and
+-- by A's length and one. Document 02, P1: "joined .. files share one ceiling". The contracts of `read_text::count_under` and
 -- `read_values::value_under` say that their answers are `counting limit` and `stating limit` of every text, so this is claimed of the calls.
 -- Assumes nothing.
 use mathlib.Core.Path.{_≡_, refl, _∙_, ap, sym}
@@ -14,10 +14,9 @@ use Rattle.reading.specs.Answer.{Answer, accepted}
 use Rattle.reading.specs.Read.{readText}
 use Rattle.reading_laws.specs.Raised.{raiseStatement}
 use Rattle.reading_laws.proofs.Joining.{reading-joins}
-use Rattle.read_statements.specs.Answers.{counted, chosen, nthOf}
-use Rattle.read_statements.proofs.Whole.{counted-accepted}
+use Rattle.reading.specs.Calls.{counted, chosen, nthOf, counting}
+use Rattle.reading_laws.proofs.Calls.{counted-accepted}
 use Rattle.read_values.specs.Calls.{raised, Joined}
-use Rattle.read_statements.specs.Answers.{counting}
 
 -- a text with so many statements
 how-many : (n : ℕ) (a : Answer (List Statement)) (ss : List Statement) → counted 0 a ≡ accepted n → a ≡ accepted ss → length ss ≡ n

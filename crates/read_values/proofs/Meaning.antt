@@ -46,10 +46,11 @@ use Rattle.read_parts.specs.declared.Part.the-variants as part
 use Rattle.read_parts.specs.Apart.{featureApart, apart}
 use Rattle.read_parts.specs.Meaning.{PartFits}
 use Rattle.read_parts.proofs.Fitting.{statement-fits}
-use Rattle.read_statements.specs.declared.StatementAt.{StatementAt}
-use Rattle.read_statements.specs.declared.StatementAt.the-variants as found
-use Rattle.read_statements.specs.Answers.{statementAs, nthOf}
-use Rattle.read_statements.proofs.Found.{found-as-read}
+use Rattle.read_text.specs.declared.StatementAt.{StatementAt}
+use Rattle.read_text.specs.declared.StatementAt.the-variants as found
+use Rattle.read_text.specs.Answers.{statementAs}
+use Rattle.reading.specs.Calls.{nthOf}
+use Rattle.reading_laws.proofs.Calls.{found-as-read}
 use Rattle.read_values.specs.declared.Value.{Value}
 use Rattle.read_values.specs.declared.Lists.{Lists}
 use Rattle.read_values.specs.Lists.{noItems, namesIn, partsLists, foundLists}

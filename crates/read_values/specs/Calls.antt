@@ -7,7 +7,7 @@ use Rattle.reading.specs.Statement.{Statement}
 use Rattle.reading.specs.Answer.{Answer, accepted}
 use Rattle.reading_laws.specs.Moved.{moveAnswer}
 use Rattle.reading_laws.specs.Raised.{further, raiseStatement}
-use Rattle.read_statements.specs.Answers.{counting, stating}
+use Rattle.reading.specs.Calls.{counting, stating}
 
 -- an answer with the places of its names and symbols so many bytes further on
 abbrev pub raised : ℕ → Answer Statement → Answer Statement

@@ -7,8 +7,8 @@ use Rattle.read_parts.specs.declared.Part.{Part}
 use Rattle.read_parts.specs.declared.Part.the-variants.{Absent, Modes, Counts, N, Operand, Name, Values, Op, Omitted}
 use Rattle.read_parts.specs.declared.Parts.{Parts}
 use Rattle.read_parts.specs.Apart.{apart}
-use Rattle.read_statements.specs.declared.StatementAt.{StatementAt}
-use Rattle.read_statements.specs.declared.StatementAt.the-variants as found
+use Rattle.read_text.specs.declared.StatementAt.{StatementAt}
+use Rattle.read_text.specs.declared.StatementAt.the-variants as found
 use Rattle.read_values.specs.declared.Lists.{Lists}
 
 -- a list that an argument does not have

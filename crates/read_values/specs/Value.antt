@@ -20,8 +20,8 @@ use Rattle.read_forms.specs.Forms.{someNameIn, valuesIn, Meanings, statementBy}
 use Rattle.read_lists.specs.Lists.{itemsFor, inOrder}
 use Rattle.read_parts.specs.Apart.{apart}
 use Rattle.read_parts.specs.Meaning.{PartsFit}
-use Rattle.read_statements.specs.declared.StatementAt.{StatementAt}
-use Rattle.read_statements.specs.declared.StatementAt.the-variants as found
+use Rattle.read_text.specs.declared.StatementAt.{StatementAt}
+use Rattle.read_text.specs.declared.StatementAt.the-variants as found
 use Rattle.read_values.specs.declared.Value.{Value}
 use Rattle.read_values.specs.declared.Lists.{Lists}
 use Rattle.read_values.specs.Lists.{foundLists}

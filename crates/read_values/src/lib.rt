@@ -2,7 +2,7 @@
 ghost use mathlib.Core.Path.{_≡_};
 ghost use Rattle.tokens.specs.Class.{classTable};
 ghost use Rattle.read_forms.specs.Fits.{Listed};
-ghost use Rattle.read_statements.specs.Answers.{stating};
+ghost use Rattle.reading.specs.Calls.{stating};
 ghost use Rattle.read_values.specs.Lists.{noItems, namesIn, countsIn, foundLists};
 ghost use Rattle.read_values.specs.Value.{valueAs, Usable, Filled};
 use read_forms::Counts;
@@ -10,7 +10,7 @@ use read_forms::Item;
 use read_forms::Items;
 use read_forms::Operand;
 use read_parts::Part;
-use read_statements::StatementAt;
+use read_text::StatementAt;
 use tokens::Classes;
 use tokens::Cursor;
 
@@ -123,7 +123,7 @@ fn value_of(text: &[u8], classes: &Classes, found: StatementAt, lists: Lists) ->
 pub fn value_under(text: &[u8], index: usize, limit: u32) -> Value
     ensures { λ r. ⌜ (valueAs (now (text .entry)) r ≡ stating limit (now (text .entry)) index) × Usable (now (text .entry)) r ⌝ }
 {
-    let found = read_statements::statement_under(text, index, limit);
+    let found = read_text::statement_under(text, index, limit);
     let classes = tokens::CLASSES;
     value_of(text, &classes, found, found_lists(found))
 }

@@ -78,6 +78,7 @@ use Rattle.reading.specs.Parts.{
   partsOf,
 }
 use Rattle.reading.specs.Answer.{Answer, accepted, refused}
+use Rattle.reading.specs.Calls.{counting, stating}
 use Rattle.reading.specs.Argument.{placeOf, countAt, rangeOf, itemsOf, operandOf, modeList, firsts, modesOf, countList, countsOf}
 use Rattle.reading.specs.Feature.{keywordOf, transitsOf, explicit, operatorOf, nameOf, featureOf, buildFeature}
 use Rattle.reading.specs.Syntax.{name, itemAs, opened, featureMade, letMade, closed, turn}
@@ -349,3 +350,32 @@ unfolding readText readFrom turn opened featureMade letMade closed
     scanned tokensAfter follow frontOf dots numberRest fraction classOf digitsIn
     partsOf featureParts
 apart-checked = refl
+
+-- What Count and Statement answer: how many statements, the one at an index, 20 at an index that is not below the count, and a refusal of reading
+-- before it.
+pub counting-checked :
+    map (λ t. counting 64 (bytes t)) ("" ∷ "LAGTIME(ON);LAGTIME(OFF)" ∷ "LAGTIME(ON" ∷ []) ≡ accepted 0 ∷ accepted 2 ∷ refused 3 10 ∷ []
+unfolding readText readFrom turn opened featureMade letMade closed
+    buildFeature featureOf keywordOf transitsOf explicit operatorOf nameOf
+    placeOf countAt rangeOf itemsOf operandOf modeList firsts modesOf countList countsOf
+    countOf sameWord find labelsOf keywords
+    scanned tokensAfter follow frontOf dots numberRest fraction classOf digitsIn
+counting-checked = refl
+
+pub stating-checked :
+    map (stating 64 (bytes "LAGTIME(ON);LAGTIME(OFF)")) (0 ∷ 1 ∷ 2 ∷ 9 ∷ [])
+    ≡ accepted (feature (Lagtime (modes (1 ∷ [])))) ∷ accepted (feature (Lagtime (modes (0 ∷ [])))) ∷ refused 20 2 ∷ refused 20 9 ∷ []
+unfolding readText readFrom turn opened featureMade letMade closed
+    buildFeature featureOf keywordOf transitsOf explicit operatorOf nameOf
+    placeOf countAt rangeOf itemsOf operandOf modeList firsts modesOf countList countsOf
+    countOf sameWord find labelsOf keywords
+    scanned tokensAfter follow frontOf dots numberRest fraction classOf digitsIn
+stating-checked = refl
+
+pub stating-refused : stating 64 (bytes "LAGTIME(ON") 5 ≡ refused 3 10
+unfolding readText readFrom turn opened featureMade letMade closed
+    buildFeature featureOf keywordOf transitsOf explicit operatorOf nameOf
+    placeOf countAt rangeOf itemsOf operandOf modeList firsts modesOf countList countsOf
+    countOf sameWord find labelsOf keywords
+    scanned tokensAfter follow frontOf dots numberRest fraction classOf digitsIn
+stating-refused = refl

@@ -1,6 +1,7 @@
 -- Document 01, Faults by cause: a value, or a refusal by its number and its place. The faults of reading, 1 to 11; and document
 -- 02, P1: "A ceiling above 256 is number 21, before 1."
 use Prim.Native.Nat.{ℕ}
+use mathlib.Core.Bool.{Bool, cond}
 
 infixl 20 _>>=_
 pub data Answer (A : Type 0) : Type 0 where
@@ -13,6 +14,10 @@ accepted a >>= f = f a
 refused n p >>= f = refused n p
 
 module _ {A : Type 0} where
+  -- a refusal by a test; what passes it goes on
+  abbrev pub refusedIf : Bool → ℕ → ℕ → Answer A → Answer A
+  refusedIf t n p a = cond t (refused n p) a
+
   -- ceiling for counts above 256
   abbrev pub tooHigh : Answer A
   tooHigh = refused 21 0

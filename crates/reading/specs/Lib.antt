@@ -6,3 +6,4 @@ pub mod Feature
 pub mod Syntax
 pub mod Read
 pub mod One
+pub mod Calls

@@ -11,17 +11,11 @@ use Rattle.tokens.specs.Token.{Shape, Tokens, finish, bad, _▸_}
 use Rattle.reading.specs.Statement.{Statement}
 use Rattle.reading.specs.Answer.{Answer, accepted, refused, tooMany, unexpected}
 use Rattle.reading.specs.Syntax.{State, Step, more, made, stop, opened, turn}
+use Rattle.reading.proofs.Answers.{not-refused, value-of}
 use Rattle.reading.specs.Read.{isSeparator, Where, between, ended, inside, prepend, onward, readFrom}
 use Rattle.reading_laws.specs.Turned.{Opened, noStatement, aKeyword, aLetKeyword}
 use Rattle.reading_laws.specs.Reads.{Reads, over, overEnded, passed, passedEnded, begun, carried, completed}
 use Rattle.reading_laws.proofs.Turning.{opening}
-
--- an answer is no refusal, and has one value
-pub not-refused : {A : Type 0} {n p : ℕ} {a : A} → refused n p ≡ accepted a → ⊥
-not-refused e = let z : _≡_ {A = ℕ} 0 1 = cc in omega arith
-
-pub value-of : {A : Type 0} {a b : A} → accepted a ≡ accepted b → a ≡ b
-value-of e = cc
 
 -- a statement's first token never ends it
 opened-goes-on : {o : ℕ} {x : Shape} {y : Step} {s : Statement} → Opened o x y → y ≡ made s → ⊥

@@ -5,7 +5,7 @@ use mathlib.Core.Path.{_≡_, ap, sym, subst}
 use mathlib.Core.List.{List, [], _∷_, _++_}
 use mathlib.Core.Option.{some, Option·none-ne-some}
 use lib.ListN.{getElem?}
-use Rattle.reading_laws.specs.Spelled.{allOf}
+use Rattle.text.specs.Lists.{gather}
 use Rattle.reading_laws.specs.Among.{Among, none, kept, dropped}
 
 module _ {A : Type 0} where
@@ -41,7 +41,7 @@ module _ {A : Type 0} where
   among-last (u ∷ us) h = dropped (among-last us h)
 
 -- what one element of a list has, among what all have
-pub among-at : {A B : Type 0} (f : A → List B) (xs : List A) (i : ℕ) (x : A) → getElem? xs i ≡ some x → Among (f x) (allOf f xs)
+pub among-at : {A B : Type 0} (f : A → List B) (xs : List A) (i : ℕ) (x : A) → getElem? xs i ≡ some x → Among (f x) (gather f xs)
 among-at f [] i x e = absurd (Option·none-ne-some x e)
-among-at f (y ∷ xs) zero x e = let same : y ≡ x = cc in among-trans (among-same (ap f (sym same))) (among-first (f y) (allOf f xs))
+among-at f (y ∷ xs) zero x e = let same : y ≡ x = cc in among-trans (among-same (ap f (sym same))) (among-first (f y) (gather f xs))
 among-at f (y ∷ xs) (suc i) x e = among-last (f y) (among-at f xs i x e)

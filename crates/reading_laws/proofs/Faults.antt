@@ -12,7 +12,7 @@ use Rattle.tokens.specs.declared.Scanned.the-variants.{Whole, Stray}
 use Rattle.tokens.specs.Token.{Tokens, finish, bad, _▸_}
 use Rattle.tokens.specs.Lex.{tokens}
 use Rattle.tokens.specs.Next.{scanned}
-use Rattle.token_laws.proofs.Tests.{and-left, and-right}
+use Rattle.text.proofs.Tests.{and-left, and-right}
 use Rattle.reading.specs.Statement.{Statement}
 use Rattle.reading.specs.Answer.{Answer, refused}
 use Rattle.reading.specs.Syntax.{State, Step}

@@ -22,7 +22,8 @@ use Rattle.reading_laws.specs.Admitted.{Admitted}
 use Rattle.reading_laws.specs.Raised.{raiseStatement, raiseRead}
 use Rattle.reading_laws.specs.Reads.{Reads, prependAll}
 use Rattle.reading_laws.proofs.Raising.{reading-raised}
-use Rattle.reading_laws.proofs.Accepting.{not-refused, accepted-reads}
+use Rattle.reading_laws.proofs.Accepting.{accepted-reads}
+use Rattle.reading.proofs.Answers.{not-refused}
 use Rattle.reading_laws.proofs.Scanning.{accepted-whole}
 use Rattle.reading_laws.proofs.Appending.{reading-appends, accepted-after}
 

@@ -5,7 +5,6 @@ pub mod Steps
 pub mod Moving
 pub mod Raising
 pub mod Giving
-pub mod Tests
 pub mod Places
 pub mod Taking
 pub mod WellArguments
@@ -25,3 +24,4 @@ pub mod Among
 pub mod NameSteps
 pub mod Spelled
 pub mod Faults
+pub mod Calls

@@ -9,8 +9,8 @@ use mathlib.Core.Option.{Option, some, none, Option·none-ne-some}
 use lib.ListN.{length, getElem?}
 use Rattle.tokens.specs.Class.{countUp}
 use Rattle.tokens.specs.Spelling.{isWord}
-use Rattle.token_laws.specs.Shaped.{all}
-use Rattle.token_laws.proofs.Tests.{and-left, and-right}
+use Rattle.text.specs.Lists.{all}
+use Rattle.text.proofs.Tests.{and-left, and-right, both}
 use Rattle.labels.specs.declared.Family.{Family}
 use Rattle.labels.specs.declared.Family.the-variants.{
   AbsorptionMode,
@@ -123,7 +123,6 @@ use Rattle.reading_laws.specs.WellFormed.{
   nothing,
 }
 use Rattle.reading_laws.specs.Taken.{TakenAs, anN, Others, over, next, leftOut, multiplied, meant, added, Taken, first, maybe, Built}
-use Rattle.reading_laws.proofs.Tests.{both}
 use Rattle.reading_laws.proofs.Giving.{
   gives-bind,
   gives-more,

@@ -8,13 +8,13 @@ use mathlib.Core.List.{List, [], _∷_}
 use borrow.Author.Tests.{eqb-true, eqb-false, ltb-true, lt-ltb, le-leb, not-true}
 use lib.Dec.{eqb, ltb}
 use lib.ListN.{length}
-use Rattle.token_laws.specs.Shaped.{all}
-use Rattle.token_laws.proofs.Tests.{and-left, and-right}
+use Rattle.text.specs.Lists.{all}
+use Rattle.text.proofs.Tests.{and-left, and-right}
 use Rattle.labels.specs.declared.Family.{Family}
 use Rattle.reading.specs.Statement.{modes}
 use Rattle.reading.specs.Argument.{without, firsts}
 use Rattle.reading_laws.specs.WellFormed.{isPlace, noneTwice, wellModes}
-pub use Rattle.reading_laws.proofs.Tests.{both}
+pub use Rattle.text.proofs.Tests.{both}
 
 -- a list without a number: no longer, what all of it passed it still passes, none stands twice that did not, and the number is gone
 without-most : (m : ℕ) (xs : List ℕ) → length (without m xs) ≤ length xs

@@ -8,7 +8,7 @@ use mathlib.Core.List.{List, [], _∷_, _++_, append-assoc}
 use mathlib.Core.Option.{some}
 use borrow.Author.Tests.{lt-ltb}
 use lib.ListN.{length, getElem?}
-use Rattle.token_laws.specs.Shaped.{all}
+use Rattle.text.specs.Lists.{all, gather}
 use Rattle.tokens.specs.Token.{Shape, word, number, mark, width, Tokens}
 use Rattle.reading.specs.Statement.{Name, Statement}
 use Rattle.reading.specs.Parts.{Part, partsOf}
@@ -16,26 +16,15 @@ use Rattle.reading.specs.Answer.{accepted}
 use Rattle.reading.specs.Syntax.{State, name}
 use Rattle.reading.specs.Read.{Where, inside, readText}
 use Rattle.reading_laws.specs.Reads.{Reads, over, overEnded, passed, passedEnded, begun, carried, completed}
-use Rattle.reading_laws.specs.Spelled.{
-  allOf,
-  partNames,
-  statementNames,
-  textNames,
-  endOf,
-  StandIn,
-  noName,
-  oneThen,
-  endsBefore,
-  placedPart,
-  asRead,
-}
+use Rattle.reading_laws.specs.Spelled.{partNames, statementNames, textNames, endOf, StandIn, noName, oneThen, endsBefore, placedPart, asRead}
 use Rattle.reading_laws.specs.WellFormed.{wellFormed}
 use Rattle.reading_laws.specs.Laid.{SpelledAt, Laid, finished, laid}
 use Rattle.reading_laws.specs.Among.{Among, none, kept, dropped, stateNames, whereNames, namesThen}
 use Rattle.reading_laws.proofs.Joining.{text-reads}
 use Rattle.reading_laws.proofs.Among.{among-at, among-all, among-same, among-none, among-append, among-trans}
 use Rattle.reading_laws.proofs.Laid.{tokens-laid}
-use Rattle.reading_laws.proofs.Tests.{both, all-left, all-right, all-both, all-weaker}
+use Rattle.text.proofs.Tests.{both}
+use Rattle.text.proofs.Passing.{all-left, all-right, all-both, all-weaker}
 use Rattle.reading_laws.proofs.WellRead.{text-well-formed}
 use Rattle.reading_laws.proofs.Turning.{leads-more, leads-made}
 use Rattle.reading_laws.proofs.NameSteps.{opened-named, turn-named}
@@ -152,9 +141,9 @@ stand-before noName = refl
 stand-before {text} (oneThen {n} l s r) = both (lt-ltb (endOf n) (length text) (s .within)) (stand-before r)
 
 -- a test that all that the elements of a list have pass
-all-each : {A B : Type 0} (p : B → Bool) (f : A → List B) (xs : List A) → all p (allOf f xs) ≡ true → all (λ x. all p (f x)) xs ≡ true
+all-each : {A B : Type 0} (p : B → Bool) (f : A → List B) (xs : List A) → all p (gather f xs) ≡ true → all (λ x. all p (f x)) xs ≡ true
 all-each p f [] e = refl
-all-each p f (x ∷ xs) e = both (all-left p (f x) (allOf f xs) e) (all-each p f xs (all-right p (f x) (allOf f xs) e))
+all-each p f (x ∷ xs) e = both (all-left p (f x) (gather f xs) e) (all-each p f xs (all-right p (f x) (gather f xs) e))
 
 pub text-as-read :
     (limit : ℕ) (text : List ℕ) (ss : List Statement) → readText limit text ≡ accepted ss → all (asRead limit (length text)) ss ≡ true

@@ -65,7 +65,7 @@ use Rattle.reading_laws.specs.Taken.{
   oneValue,
   someValues,
 }
-use Rattle.reading_laws.proofs.Tests.{both}
+use Rattle.text.proofs.Tests.{both}
 use Rattle.reading_laws.proofs.Giving.{gives-bind}
 
 module _ (limit : ℕ) where

@@ -8,8 +8,8 @@ use mathlib.Core.List.{List, [], _∷_, map}
 use borrow.Author.Tests.{leb-true, lt-ltb, le-leb}
 use lib.Dec.{leb}
 use lib.ListN.{length, length-map}
-use Rattle.token_laws.specs.Shaped.{all}
-use Rattle.token_laws.proofs.Tests.{and-left, and-right}
+use Rattle.text.specs.Lists.{all}
+use Rattle.text.proofs.Tests.{and-left, and-right, both}
 use Rattle.labels.specs.declared.Family.{Family}
 use Rattle.labels.specs.Label.{labelsOf}
 use Rattle.labels.proofs.Finding.{found-at}
@@ -19,7 +19,6 @@ use Rattle.reading.specs.Argument.{Arg}
 use Rattle.reading_laws.specs.WellFormed.{upTo64, oneTo64, spelledAs, wellNamed, wellItem, isPlace, withinLimit, wellPart, wellArg}
 use Rattle.reading_laws.specs.Taken.{IsMode, IsCount, aCount, EachTaken, noneTaken, oneTaken, RangeTaken, fromTo, TakenAs}
 use Rattle.reading_laws.specs.Taken as taken
-use Rattle.reading_laws.proofs.Tests.{both}
 use Rattle.reading_laws.proofs.Places.{places-well}
 
 -- Names.

@@ -9,7 +9,7 @@ use lib.ListN.{replicate}
 use Rattle.text.specs.Bytes.{bytes}
 use Rattle.tokens.specs.Class.{classOf}
 use Rattle.tokens.specs.Lex.{fraction, numberRest}
-use Rattle.token_laws.specs.Shaped.{all}
+use Rattle.text.specs.Lists.{all}
 use Rattle.labels.specs.Label.{labelsOf}
 use Rattle.reading.specs.Statement.{
   Name,

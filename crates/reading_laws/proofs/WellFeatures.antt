@@ -4,15 +4,14 @@ use Prim.Native.Nat.{ℕ}
 use mathlib.Core.Path.{_≡_, refl}
 use mathlib.Core.Bool.{Bool, true}
 use mathlib.Core.List.{List}
-use Rattle.token_laws.specs.Shaped.{all}
-use Rattle.token_laws.proofs.Tests.{and-left, and-right}
+use Rattle.text.specs.Lists.{all}
+use Rattle.text.proofs.Tests.{and-left, and-right, both}
 use Rattle.reading.specs.Statement.{Name}
 use Rattle.reading.specs.Parts.{Part}
 use Rattle.reading.specs.Argument.{Arg}
 use Rattle.reading.specs.Feature.{buildFeature}
 use Rattle.reading_laws.specs.WellFormed.{wellPart, wellFeature, wellArg, Gives}
 use Rattle.reading_laws.specs.Taken.{Others, over, next, leftOut, multiplied, meant, added, Taken, first}
-use Rattle.reading_laws.proofs.Tests.{both}
 use Rattle.reading_laws.proofs.Giving.{gives-more}
 use Rattle.reading_laws.proofs.WellArguments.{part-well}
 use Rattle.reading_laws.proofs.Parts.{build-taken}

@@ -6,16 +6,16 @@ use mathlib.Core.Bool.{true}
 use mathlib.Core.List.{List}
 use Rattle.tokens.specs.Token.{Tokens}
 use Rattle.tokens.specs.Spelling.{isShape}
-use Rattle.token_laws.specs.Shaped.{all, allShapes}
+use Rattle.token_laws.specs.Shaped.{allShapes}
+use Rattle.text.specs.Lists.{all}
 use Rattle.token_laws.proofs.Shapes.{tokens-shapes}
-use Rattle.token_laws.proofs.Tests.{and-left, and-right}
+use Rattle.text.proofs.Tests.{and-left, and-right, both}
 use Rattle.reading.specs.Statement.{Statement}
 use Rattle.reading.specs.Answer.{accepted}
 use Rattle.reading.specs.Read.{Where, readText}
 use Rattle.reading_laws.specs.Reads.{Reads, over, overEnded, passed, passedEnded, begun, carried, completed}
 use Rattle.reading_laws.specs.WellFormed.{wellFormed, wellWhere}
 use Rattle.reading_laws.proofs.Joining.{text-reads}
-use Rattle.reading_laws.proofs.Tests.{both}
 use Rattle.reading_laws.proofs.Turning.{leads-more, leads-made}
 use Rattle.reading_laws.proofs.WellSteps.{opened-well, turn-well}
 

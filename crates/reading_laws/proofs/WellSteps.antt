@@ -10,15 +10,15 @@ use lib.Dec.{leb}
 use lib.ListN.{length, length-append}
 use Rattle.tokens.specs.Token.{Shape}
 use Rattle.tokens.specs.Spelling.{isWord, isNumber, isShape}
-use Rattle.token_laws.specs.Shaped.{all}
-use Rattle.token_laws.proofs.Tests.{and-left, and-right}
+use Rattle.text.specs.Lists.{all}
+use Rattle.text.proofs.Tests.{and-left, and-right, both}
 use Rattle.reading.specs.Statement.{Item}
 use Rattle.reading.specs.Argument.{Arg}
 use Rattle.reading.specs.Syntax.{Call, State, Step, opened, turn}
 use Rattle.reading_laws.specs.WellFormed.{upTo64, wellItem, wellFormed, wellArg, wellCall, wellState}
 use Rattle.reading_laws.specs.Turned.{Leads, goes, makes, halts, Opened, Turned}
 use Rattle.reading_laws.specs.Turned as case
-use Rattle.reading_laws.proofs.Tests.{both, all-append}
+use Rattle.text.proofs.Passing.{all-append}
 use Rattle.reading_laws.proofs.Giving.{value-given}
 use Rattle.reading_laws.proofs.Turning.{opening, turning}
 use Rattle.reading_laws.proofs.WellArguments.{range-well, part-well}

@@ -25,7 +25,8 @@ use Rattle.reading.specs.Syntax.{
   name,
 }
 use Rattle.reading.specs.Read.{Where, between, ended, inside}
-use Rattle.reading_laws.specs.Spelled.{allOf, itemNames}
+use Rattle.reading_laws.specs.Spelled.{itemNames}
+use Rattle.text.specs.Lists.{gather}
 
 pub data Among {A : Type 0} : List A → List A → Type 0 where
   none : Among [] []
@@ -43,7 +44,7 @@ argNames (range o a b) = []
 argNames (array o is) = itemNames is
 
 abbrev pub argsNames : List Arg → List Name
-argsNames bs = allOf argNames bs
+argsNames bs = gather argNames bs
 
 abbrev pub callNames : Call → List Name
 callNames (featureCall k m args) = argsNames args

@@ -6,7 +6,7 @@ use mathlib.Core.Bool.{Bool, _&&_}
 use mathlib.Core.List.{List, [], _∷_, _++_, map}
 use lib.Dec.{ltb}
 use lib.ListN.{length, take, drop}
-use Rattle.token_laws.specs.Shaped.{all}
+use Rattle.text.specs.Lists.{all, gather}
 use Rattle.reading.specs.Statement.{Name, Item, Operand, everyone, symbol, names, Statement}
 use Rattle.reading.specs.Parts.{
   Part,
@@ -21,11 +21,6 @@ use Rattle.reading.specs.Parts.{
   partsOf,
 }
 use Rattle.reading_laws.specs.WellFormed.{wellFormed}
-
--- what the elements of a list have, one after the other
-abbrev pub allOf : {A B : Type 0} → (A → List B) → List A → List B
-allOf f [] = []
-allOf f (x ∷ xs) = f x ++ allOf f xs
 
 -- The names, symbols and values of parts, of a statement and of statements, in their order.
 
@@ -48,13 +43,13 @@ partNames (operatorPart op) = []
 partNames omitted = []
 
 abbrev pub partsNames : List Part → List Name
-partsNames ps = allOf partNames ps
+partsNames ps = gather partNames ps
 
 abbrev pub statementNames : Statement → List Name
 statementNames s = partsNames (partsOf s .arguments)
 
 abbrev pub textNames : List Statement → List Name
-textNames ss = allOf statementNames ss
+textNames ss = gather statementNames ss
 
 -- the offset after a name's last byte
 abbrev pub endOf : Name → ℕ

@@ -5,7 +5,7 @@ use mathlib.Core.Path.{_≡_}
 use mathlib.Core.Bool.{Bool, true}
 use mathlib.Core.List.{List, [], _∷_, map}
 use mathlib.Core.Option.{Option, some, none}
-use Rattle.token_laws.specs.Shaped.{all}
+use Rattle.text.specs.Lists.{all}
 use Rattle.counts.specs.Count.{whole, value}
 use Rattle.labels.specs.declared.Family.{Family}
 use Rattle.labels.specs.Word.{find}

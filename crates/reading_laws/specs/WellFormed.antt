@@ -8,7 +8,7 @@ use mathlib.Core.Option.{Option, some, none}
 use lib.Dec.{eqb, leb, ltb}
 use lib.ListN.{length}
 use Rattle.tokens.specs.Spelling.{isWord, isNumber, isName}
-use Rattle.token_laws.specs.Shaped.{all}
+use Rattle.text.specs.Lists.{all}
 use Rattle.labels.specs.declared.Family.{Family}
 use Rattle.labels.specs.Label.{labelsOf}
 use Rattle.reading.specs.Statement.{

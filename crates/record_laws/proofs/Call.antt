@@ -207,12 +207,15 @@ module _ (S : Shape) where
   abbrev pub at-entry : {X : Type 0} → In T₀ T₁ T₂ T₃ T₄ T₅ X → Arg → X
   at-entry f a = f (now (a .0)) (now (a .1 .0)) (now (a .1 .1 .0)) (now (a .1 .1 .1 .0)) (now (a .1 .1 .1 .1 .0)) (now (a .1 .1 .1 .1 .1 .0)) (now (a .1 .1 .1 .1 .1 .1 .0)) (a .1 .1 .1 .1 .1 .1 .1 .0)
 
+  -- what is answered, and what is left of the lent slices
+  abbrev pub Leaves : Arg → ℕ → List (T₃ .Denot) → List (T₄ .Denot) → List (T₅ .Denot) → List ℕ → Type 0
+  Leaves a r g xs n w = (r ≡ at-entry answer a) × ((g ≡ at-entry ground a) × ((xs ≡ at-entry records a) × ((n ≡ at-entry notes a) × (w ≡ at-entry work a))))
+
   abbrev pub clauses : {M : Type 1} (𝓤 : URA M) → Clauses 𝓤 ended
   clauses 𝓤 κs a = record {
     ghost = Unit {0};
     requires = λ _. emp 𝓤;
-    ensures = λ _ r e. sep 𝓤 (fact 𝓤 (r ≡ at-entry answer a)) (sep 𝓤 (fact 𝓤 (now (e .1 .1 .1 .0) ≡ at-entry ground a)) (sep 𝓤 (fact 𝓤 (now (e .1 .1 .1 .1 .0) ≡ at-entry records a))
-        (sep 𝓤 (fact 𝓤 (now (e .1 .1 .1 .1 .1 .0) ≡ at-entry notes a)) (fact 𝓤 (now (e .1 .1 .1 .1 .1 .1 .0) ≡ at-entry work a)))));
+    ensures = λ _ r e. fact 𝓤 (Leaves a r (now (e .1 .1 .1 .0)) (now (e .1 .1 .1 .1 .0)) (now (e .1 .1 .1 .1 .1 .0)) (now (e .1 .1 .1 .1 .1 .1 .0)));
   }
 
   abbrev pub CallAt : {M : Type 1} (𝓤 : URA M) (H : Heap 𝓤) (A : Atoms 𝓤) → Contract 𝓤
@@ -385,17 +388,14 @@ module _ (S : Shape) where
                 let stores-all : kept-records ≡ at-entry records x = ap (stored unpacked zs (x₄ .now)) many ∙ known .recorded in
                 qed W (Ended₄ ys) ∵
                 suffices ! _ (ends-at 𝓤 H A ended stayed (clauses 𝓤) W bound (vint w64 r) r (tt, (tt, (tt, (last₃ left, (kept-records, (last₅ left, (ys, (tt, tt)))))))) (tt, (tt, (tt, (same₃, (same₄, (same₅, (same ∙ same₆, (tt, tt))))))))) $
-                use0 W (raw (fact 𝓤 (ys ≡ at-entry work x))) (factI 𝓤 _ (emp 𝓤) (e ∙ known .left)) $
-                use0 W (raw (fact 𝓤 (last₅ left ≡ at-entry notes x))) (factI 𝓤 _ (emp 𝓤) (known .noted)) $
-                use0 W (raw (fact 𝓤 (kept-records ≡ at-entry records x))) (factI 𝓤 _ (emp 𝓤) stores-all) $
-                use0 W (raw (fact 𝓤 (last₃ left ≡ at-entry ground x))) (factI 𝓤 _ (emp 𝓤) (known .grounded)) $
-                use0 W (raw (fact 𝓤 (r ≡ at-entry answer x))) (factI 𝓤 _ (emp 𝓤) (known .told)) $
-                -- [the five facts; the seven tokens; the four last lists]
+                use0 W (raw (fact 𝓤 (Leaves x r (last₃ left) kept-records (last₅ left) ys)))
+                (factI 𝓤 _ (emp 𝓤) (known .told, (known .grounded, (stores-all, (known .noted, e ∙ known .left))))) $
+                -- [the fact; the seven tokens; the four last lists]
                 owned ! u64 (Is u64) (uint-makes 𝓤 H A W w64) r _ (refl, gr) $ nothing ! $ nothing ! $ fjoin ! $
-                -- [ftrue of the limit and of the end; the result; the five facts; the seven tokens; the four last lists]
-                move ! (17 ∷ 0 ∷ []) $ fjoin ! $ move ! (16 ∷ 0 ∷ []) $ fjoin ! $ move ! (15 ∷ 0 ∷ []) $ fjoin ! $ move ! (14 ∷ 0 ∷ []) $ fjoin ! $
+                -- [ftrue of the limit and of the end; the result; the fact; the seven tokens; the four last lists]
+                move ! (13 ∷ 0 ∷ []) $ fjoin ! $ move ! (12 ∷ 0 ∷ []) $ fjoin ! $ move ! (11 ∷ 0 ∷ []) $ fjoin ! $ move ! (10 ∷ 0 ∷ []) $ fjoin ! $
                 nothing ! $ fjoin ! $ nothing ! $ fjoin ! $ nothing ! $ fjoin ! $
-                join ! $ nothing ! $ move ! (13 ∷ 0 ∷ []) $ join ! $ move ! (12 ∷ 0 ∷ []) $ join ! $ move ! (11 ∷ 0 ∷ []) $ join ! $ move ! (10 ∷ 0 ∷ []) $ join ! $ move ! (9 ∷ 0 ∷ []) $ join ! $ move ! (8 ∷ 0 ∷ []) $ join ! $ move ! (7 ∷ 0 ∷ []) $ join ! $
+                join ! $ nothing ! $ move ! (9 ∷ 0 ∷ []) $ join ! $ move ! (8 ∷ 0 ∷ []) $ join ! $ move ! (7 ∷ 0 ∷ []) $ join ! $ move ! (6 ∷ 0 ∷ []) $ join ! $ move ! (5 ∷ 0 ∷ []) $ join ! $ move ! (4 ∷ 0 ∷ []) $ join ! $ move ! (3 ∷ 0 ∷ []) $ join ! $
                 join ! $ frame ! $ done !
 
             -- ---- `finish(work)`, and the answer

@@ -1,8 +1,8 @@
 // What is asked about a text alone, and the answer: its tokens, Count, Statement, Print and the profile.
 use print_render::Printed;
 use read_profile::Profiled;
-use read_statements::CountRead;
-use read_statements::StatementAt;
+use read_text::CountRead;
+use read_text::StatementAt;
 use replay_lines::lexed;
 use replay_lines::output;
 
@@ -17,7 +17,7 @@ pub enum Asked {
 }
 
 fn answer_count(text: &[u8], ceiling: u32, out: &mut [u8], len: usize) -> usize {
-    match read_statements::count_under(text, ceiling) {
+    match read_text::count_under(text, ceiling) {
         CountRead::Count(count) => {
             let n = output::put_all(out, len, b"ok");
             output::put_number(out, n, count)

@@ -66,7 +66,7 @@ fn put_values(out: &mut [u8], len: usize, values: [u32; 64], count: usize) -> us
     output::put(out, n, b']')
 }
 
-// The places of a list of modes that is packed into a number (`packs`).
+// The places of a list of modes that is packed into a number (`read_packs`).
 fn put_places(out: &mut [u8], len: usize, packed: u32) -> usize {
     let mut n = output::put_all(out, len, b" [");
     let mut left = packed;

@@ -4,10 +4,10 @@ use Prim.Native.Nat.{ℕ, _≤_}
 use mathlib.Core.Path.{_≡_, _∙_, sym, subst}
 use mathlib.Core.List.{List}
 use lib.ListN.{length}
-use Rattle.reading_laws.proofs.Accepting.{value-of}
+use Rattle.reading.proofs.Answers.{value-of}
 use Rattle.print_writing.specs.Written.{Written}
-use Rattle.print_render.specs.Text.{restOf}
-use Rattle.resolving.specs.Lists.{gather}
+use Rattle.canonical.specs.Lines.{restOf}
+use Rattle.text.specs.Lists.{gather}
 use Rattle.resolving.specs.Brought.{Brought, bring}
 use Rattle.resolving.specs.Ground.{staying}
 use Rattle.resolving.specs.Resolve.{mergeAndGround}

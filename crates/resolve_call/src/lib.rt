@@ -1,19 +1,17 @@
 // Resolve: a text and a context give the ground text, the covariate effects and the notes.
 ghost use mathlib.Core.Path.{_≡_};
-ghost use mathlib.Core.List.{map};
 ghost use Prim.Native.Nat.{_≤_};
 ghost use lib.ListN.{length};
 ghost use Rattle.tokens.specs.Class.{classTable};
 ghost use Rattle.labels.specs.Table.{labelTable, keywordTable};
 ghost use Rattle.resolving.specs.Handed.{resolveHanded};
-ghost use Rattle.resolving.specs.Call.{resolveCall, lengthsOf, outputOf, workAfter, effectNumbers, noteNumbers};
-ghost use Rattle.resolving.specs.Resolve.{groundText};
+ghost use Rattle.resolving.specs.Call.{resolveCall, Leaves, lengthsOf, workAfter, effectNumbers};
 ghost use Rattle.resolve_settling.specs.Answers.{Answers, Packed, resolvedAs, effectsIn, rooms, lent};
 ghost use Rattle.reading_laws.specs.Admitted.{Admitted};
 ghost use Rattle.resolve_settling.specs.Attempts.{AttemptAs};
 use labels::Keywords;
 use labels::Labels;
-use read_statements::Admission;
+use read_forms::Admission;
 use resolve_settling::Attempt;
 use resolve_settling::Resolved;
 use resolve_taking::Taken;
@@ -188,7 +186,7 @@ fn resolve_in(
         (now (ground .entry)) room (now (notes .entry))
         (now (ground .exit)) (now (notes .exit)) (now (work .exit)) r ⌝ }
 {
-    match read_statements::admit(text, limit) {
+    match read_forms::admit(text, limit) {
         Admission::Refused(r) => {
             return Resolved::Refused(r);
         }
@@ -296,15 +294,10 @@ pub fn resolve_under(
     work: &mut [u32],
     limit: u32,
 ) -> Resolved
-    ensures { λ r. ⌜ resolvedAs r ≡ lengthsOf (resolveCall limit (now (block .entry)) (now (lists .entry)) (now (text .entry))
-        (lent (now (ground .entry)) (now (effects .entry)) (now (notes .entry))) (length (now (work .entry)))) ⌝ }
-    ensures { λ _. ⌜ now (ground .exit) ≡ outputOf groundText (resolveCall limit (now (block .entry)) (now (lists .entry)) (now (text .entry))
-        (lent (now (ground .entry)) (now (effects .entry)) (now (notes .entry))) (length (now (work .entry)))) (now (ground .entry)) ⌝ }
-    ensures { λ _. ⌜ now (effects .exit) ≡ outputOf (λ x. map effectNumbers (x .effects)) (resolveCall limit (now (block .entry)) (now (lists .entry)) (now (text .entry))
-        (lent (now (ground .entry)) (now (effects .entry)) (now (notes .entry))) (length (now (work .entry)))) (now (effects .entry)) ⌝ }
-    ensures { λ _. ⌜ now (notes .exit) ≡ outputOf (λ x. map noteNumbers (x .notes)) (resolveCall limit (now (block .entry)) (now (lists .entry)) (now (text .entry))
-        (lent (now (ground .entry)) (now (effects .entry)) (now (notes .entry))) (length (now (work .entry)))) (now (notes .entry)) ⌝ }
-    ensures { λ _. ⌜ now (work .exit) ≡ workAfter (now (work .entry)) ⌝ }
+    ensures { λ r. ⌜ Leaves (resolveCall limit (now (block .entry)) (now (lists .entry)) (now (text .entry))
+        (lent (now (ground .entry)) (now (effects .entry)) (now (notes .entry))) (length (now (work .entry)))) (λ a. a) (resolvedAs r) effectNumbers
+        (now (ground .entry)) (now (ground .exit)) (now (effects .entry)) (now (effects .exit))
+        (now (notes .entry)) (now (notes .exit)) (now (work .entry)) (now (work .exit)) ⌝ }
 {
     let room = effects.len();
     let resolved = resolve_packed(text, block, lists, ground, room, notes, work, limit);
@@ -324,15 +317,10 @@ pub fn resolve(
     notes: &mut [[u8; 2]],
     work: &mut [u32],
 ) -> Resolved
-    ensures { λ r. ⌜ resolvedAs r ≡ lengthsOf (resolveCall 64 (now (block .entry)) (now (lists .entry)) (now (text .entry))
-        (lent (now (ground .entry)) (now (effects .entry)) (now (notes .entry))) (length (now (work .entry)))) ⌝ }
-    ensures { λ _. ⌜ now (ground .exit) ≡ outputOf groundText (resolveCall 64 (now (block .entry)) (now (lists .entry)) (now (text .entry))
-        (lent (now (ground .entry)) (now (effects .entry)) (now (notes .entry))) (length (now (work .entry)))) (now (ground .entry)) ⌝ }
-    ensures { λ _. ⌜ now (effects .exit) ≡ outputOf (λ x. map effectNumbers (x .effects)) (resolveCall 64 (now (block .entry)) (now (lists .entry)) (now (text .entry))
-        (lent (now (ground .entry)) (now (effects .entry)) (now (notes .entry))) (length (now (work .entry)))) (now (effects .entry)) ⌝ }
-    ensures { λ _. ⌜ now (notes .exit) ≡ outputOf (λ x. map noteNumbers (x .notes)) (resolveCall 64 (now (block .entry)) (now (lists .entry)) (now (text .entry))
-        (lent (now (ground .entry)) (now (effects .entry)) (now (notes .entry))) (length (now (work .entry)))) (now (notes .entry)) ⌝ }
-    ensures { λ _. ⌜ now (work .exit) ≡ workAfter (now (work .entry)) ⌝ }
+    ensures { λ r. ⌜ Leaves (resolveCall 64 (now (block .entry)) (now (lists .entry)) (now (text .entry))
+        (lent (now (ground .entry)) (now (effects .entry)) (now (notes .entry))) (length (now (work .entry)))) (λ a. a) (resolvedAs r) effectNumbers
+        (now (ground .entry)) (now (ground .exit)) (now (effects .entry)) (now (effects .exit))
+        (now (notes .entry)) (now (notes .exit)) (now (work .entry)) (now (work .exit)) ⌝ }
 {
     resolve_under(text, block, lists, ground, effects, notes, work, 64)
 }

@@ -10,7 +10,7 @@ use lib.Dec.{leb, eqb}
 use lib.ListN.{length, getD}
 use Rattle.text.proofs.Tests.{halves}
 use Rattle.text.specs.Bytes.{every}
-use Rattle.resolving.specs.Lists.{all, isNil}
+use Rattle.text.specs.Lists.{all, isNil}
 use Rattle.resolving.specs.Handed.{
   bindingsAt,
   declaredAt,

@@ -13,8 +13,8 @@ use lib.ListN.{length, getD, drop, getElem?, length-map, length-drop}
 use lib.Seq.{length-take-le}
 use Rattle.text.proofs.Tests.{halves}
 use Rattle.tokens.specs.Spelling.{isName}
-use Rattle.labels.specs.Word.{sameWord, oneLater}
-use Rattle.resolving.specs.Lists.{all, placeIn}
+use Rattle.labels.specs.Word.{sameWord}
+use Rattle.text.specs.Lists.{oneLater, all, placeIn}
 use Rattle.resolving.specs.Context.{Declared, kindOr, kindAt, covariatesOr, covariates}
 use Rattle.resolving.specs.Builtins.{matching}
 use Rattle.resolving.specs.Given.{Pair, isEntry, inOrder, spelled, kindOf, onlyIf, bindingIn, declaredIn}

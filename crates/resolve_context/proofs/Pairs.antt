@@ -11,7 +11,7 @@ use lib.Dec.{leb}
 use lib.ListN.{length, getD, length-map, List·getD-eq-default}
 use Rattle.text.proofs.Tests.{halves}
 use Rattle.tokens.specs.Spelling.{isName}
-use Rattle.resolving.specs.Lists.{all, gather}
+use Rattle.text.specs.Lists.{all, gather}
 use Rattle.resolving.specs.Given.{Pair, isEntry, inOrder, bothPairs, spelled}
 use Rattle.resolving.specs.Handed.{pairAt, pairsAt, bindingsAt, declaredAt}
 use Rattle.resolve_context.specs.Lists.{namesIn, kindsIn, Sound}

@@ -10,8 +10,7 @@ use native.Mathlib.Numerals.{add-one}
 use native.Mathlib.Omega.{arith}
 use lib.ListN.{length, getD, drop, drop-of-length-le}
 use lib.Seq.{drop-cons}
-use Rattle.labels.specs.Word.{oneLater}
-use Rattle.resolving.specs.Lists.{placeIn}
+use Rattle.text.specs.Lists.{oneLater, placeIn}
 use Rattle.resolve_context.specs.Lists.{foundAs}
 use Rattle.resolve_context.specs.declared.Found.{Found}
 use Rattle.resolve_context.specs.declared.Found.the-variants.{Place, Nothing}

@@ -8,7 +8,7 @@ use lib.Dec.{eqb, leb}
 use lib.ListN.{length, getD}
 use Rattle.text.specs.Bytes.{every}
 use Rattle.labels.specs.Word.{sameWord}
-use Rattle.resolving.specs.Lists.{all, sameBytes}
+use Rattle.text.specs.Lists.{all, sameBytes}
 use Rattle.resolving.specs.Context.{Binding, Declared}
 use Rattle.resolving.specs.Given.{Pair, isEntry, inOrder, spelled, bindingIn, declaredIn}
 use Rattle.resolving.specs.Handed.{pairsAt, bindingsAt, declaredAt, iivStart, templateStart, declaredStart, columnsStart, isHanded}

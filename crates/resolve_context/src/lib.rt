@@ -7,7 +7,7 @@ ghost use mathlib.Core.Bool.{true};
 ghost use Rattle.tokens.specs.Class.{classTable};
 ghost use Rattle.tokens.specs.Spelling.{isName};
 ghost use Rattle.labels.specs.Word.{sameWord};
-ghost use Rattle.resolving.specs.Lists.{sameBytes, placeIn};
+ghost use Rattle.text.specs.Lists.{sameBytes, placeIn};
 ghost use Rattle.resolving.specs.Given.{isEntry};
 ghost use Rattle.resolving.specs.Handed.{pairOf, pastAll, isHanded};
 ghost use Rattle.read_forms.specs.Items.{nameIn};
@@ -402,12 +402,4 @@ pub fn check(block: &[u8], classes: &Classes, lists: &[u32]) -> Checked
         return Checked::Context(read_layout(lists));
     }
     Checked::Wrong
-}
-
-// A single check, which makes the table itself.
-pub fn check_alone(block: &[u8], lists: &[u32]) -> Checked
-    ensures { λ r. ⌜ r ≡ checkedAs (now (block .entry)) (now (lists .entry)) ⌝ }
-{
-    let classes = tokens::CLASSES;
-    check(block, &classes, lists)
 }

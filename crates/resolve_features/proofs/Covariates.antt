@@ -15,7 +15,7 @@ use Rattle.labels.specs.declared.Family.the-variants.{CovariateEffect}
 use Rattle.read_forms.specs.declared.Modes as formModes
 use Rattle.read_forms.specs.declared.Modes.the-variants as form
 use Rattle.read_forms.specs.Forms.{modesIn}
-use Rattle.resolving.specs.Lists.{any, isNil}
+use Rattle.text.specs.Lists.{any, isNil}
 use Rattle.resolving.specs.Faults.{wrongKind}
 use Rattle.resolving.specs.Context.{Context, CovariateKind, continuous, categorical}
 use Rattle.resolving.specs.Symbols.{Meaning}

@@ -33,8 +33,8 @@ use Rattle.read_parts.specs.Apart.{one, featureApart, apart}
 use Rattle.read_parts.specs.Meaning.{partsIn}
 use Rattle.read_parts.proofs.Meaning.{taken}
 use Rattle.print_writing.specs.Written.{Written}
-use Rattle.print_render.specs.Text.{jointOf, pieceOf}
-use Rattle.resolving.specs.Lists.{placeIn, sameBytes}
+use Rattle.canonical.specs.Lines.{jointOf, pieceOf}
+use Rattle.text.specs.Lists.{placeIn, sameBytes}
 use Rattle.resolving.specs.Context.{Context, covariates}
 use Rattle.resolving.specs.Symbols.{Meaning}
 use Rattle.resolving.specs.Brought.{Brought, dropped, stays, whole, listed, dropIf, bringFeature}

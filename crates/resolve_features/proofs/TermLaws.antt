@@ -10,9 +10,9 @@ use borrow.Author.Tests.{ltb-true, eq-eqb}
 use lib.Dec.{eqb, ltb}
 use lib.ListN.{length, length-map, length-append}
 use Rattle.text.specs.Bytes.{every}
-use Rattle.token_laws.proofs.Tests.{and-left, and-right}
+use Rattle.text.proofs.Tests.{and-left, and-right}
 use Rattle.reading.specs.Statement.{Modes, allModes, modes, Operator, multiply, add}
-use Rattle.resolving.specs.Lists.{gather}
+use Rattle.text.specs.Lists.{gather}
 use Rattle.resolving.specs.Context.{Context, CovariateKind, continuous, categorical, kindAt}
 use Rattle.resolving.specs.Effects.{Effect, operatorNumber, optionalNumber, formsOf, formEffects, effectsOf}
 use Rattle.resolving_laws.specs.Flat.{Term, term}

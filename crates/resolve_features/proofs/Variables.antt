@@ -11,7 +11,7 @@ use lib.ListN.{length, take, getD, length-append, List·getD-eq-default}
 use lib.Seq.{length-take-le}
 use Rattle.reading.specs.Answer.{Answer, accepted, refused}
 use Rattle.print_writing.specs.Written.{Room}
-use Rattle.print_render.specs.Text.{jointOf}
+use Rattle.canonical.specs.Lines.{jointOf}
 use Rattle.resolving.specs.Handed.{handedContext}
 use Rattle.resolve_context.specs.declared.Layout.{Layout}
 use Rattle.resolve_context.specs.Lists.{Stands, namesIn}

@@ -22,7 +22,7 @@ use Rattle.read_forms.specs.Forms.{modesIn, featureIn}
 use Rattle.read_parts.specs.Apart.{one, featureApart}
 use Rattle.print_writing.specs.Written.{Written}
 use Rattle.print_statements.specs.Bytes.{headOf}
-use Rattle.print_render.specs.Text.{jointOf, pieceOf}
+use Rattle.canonical.specs.Lines.{jointOf, pieceOf}
 use Rattle.resolving.specs.Brought.{Brought, dropped, stays, whole}
 use Rattle.resolving.specs.Handed.{handedContext}
 use Rattle.resolve_operands.specs.Entries.{parametersIn}

@@ -16,8 +16,8 @@ ghost use Rattle.read_parts.specs.Apart.{apart};
 ghost use Rattle.read_forms.specs.Fits.{InText};
 ghost use Rattle.read_parts.specs.Meaning.{PartsFit, OperandFits, partsIn};
 ghost use Rattle.print_writing.specs.Written.{Room, Written};
-ghost use Rattle.print_render.specs.Text.{jointOf};
-ghost use Rattle.resolving.specs.Lists.{placeIn, sameBytes};
+ghost use Rattle.canonical.specs.Lines.{jointOf};
+ghost use Rattle.text.specs.Lists.{placeIn, sameBytes};
 ghost use Rattle.resolving.specs.Context.{covariates as covariates·spec};
 ghost use Rattle.resolving.specs.Effects.{operatorNumber, optionalNumber};
 ghost use Rattle.resolving.specs.Brought.{isExplicit, bringFeature};
@@ -109,7 +109,7 @@ fn put_whole(
         (jointOf before ++ spellAll (takenShapes (allWhole (partsIn (now (text .entry)) (apart (Statement.Feature feature))))))
         (now (out .exit)) r ⌝ }
 {
-    let next = print_render::put_joint(before, out, at);
+    let next = print_statements::put_joint(before, out, at);
     match alone_of(feature) {
         Alone::Modes(keyword, family, modes) => {
             put_alone(labels, keys, keyword, family, modes, out, next)
@@ -133,7 +133,7 @@ fn is_covariate(text: &[u8], block: &[u8], lists: &[u32], layout: Layout, name: 
         block,
         lists,
         resolve_context::covariates(layout),
-        resolve_symbols::spelling(text, name),
+        read_forms::spelling(text, name),
     ) {
         Found::Place(_) => true,
         Found::Nothing => false,
@@ -186,7 +186,7 @@ fn stay_variables<'a>(
     if entries.count < least {
         return Stay::Dropped;
     }
-    let next = print_render::put_joint(before, out, at);
+    let next = print_statements::put_joint(before, out, at);
     let whole = resolve_grounding::whole_modes(family, modes);
     let layout = resolve_context::read_layout(lists);
     Stay::Next(resolve_grounding::put_variables(

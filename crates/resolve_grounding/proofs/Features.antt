@@ -41,7 +41,7 @@ use Rattle.reading.specs.Statement.{
   counted,
 }
 use Rattle.canonical.specs.Canonical.{argumentShapes, callShapes, operandShapes, modesShapes, takenShapes, statementShapes}
-use Rattle.resolving.specs.Lists.{isNil, placeIn, sameBytes}
+use Rattle.text.specs.Lists.{isNil, placeIn, sameBytes}
 use Rattle.resolving.specs.Context.{Context, covariates}
 use Rattle.resolving.specs.Symbols.{Meaning}
 use Rattle.resolving.specs.Operands.{parametersOf}

@@ -9,7 +9,7 @@ use borrow.Author.Tests.{leb-true}
 use lib.Dec.{eqb, leb}
 use lib.ListN.{length, getD, length-append, length-map}
 use Rattle.text.specs.Bytes.{bytes, every, countUp}
-use Rattle.token_laws.proofs.Tests.{and-left, and-right}
+use Rattle.text.proofs.Tests.{and-left, and-right}
 use Rattle.tokens.specs.Token.{Shape}
 use Rattle.tokens.specs.Spelling.{spell, spellAll}
 use Rattle.labels.specs.declared.Family.{Family}
@@ -60,7 +60,8 @@ use Rattle.canonical.specs.Canonical.{
   partsShapes,
   takenShapes,
 }
-use Rattle.print_parts.proofs.Bytes.{spell-append, spell-bracketed, spell-name}
+use Rattle.print_parts.proofs.Bytes.{spell-bracketed, spell-name}
+use Rattle.tokens.proofs.Spelling.{spell-append}
 use Rattle.resolving.specs.Brought.{whole, plainName}
 use Rattle.print_statements.specs.Bytes.{headOf}
 use Rattle.print_statements.proofs.Bytes.{call-bytes}

@@ -18,14 +18,13 @@ use Rattle.read_packs.specs.Packs.{places}
 use Rattle.read_forms.specs.declared.Modes.the-variants as form
 use Rattle.read_forms.specs.Forms.{modesIn}
 use Rattle.print_writing.specs.Written.{Room}
-use Rattle.print_render.specs.Text.{jointOf}
-use Rattle.print_render.specs.Text.{restOf}
+use Rattle.canonical.specs.Lines.{jointOf, restOf}
 use Rattle.resolving.specs.Context.{Context, covariates}
 use Rattle.resolving.specs.Effects.{Effect}
 use Rattle.resolving.specs.Brought.{whole}
 use Rattle.resolving.specs.Ground.{Group, groupOf, sameGroup, groups, formsIn, groundCovariate, groundEffects}
 use Rattle.resolving.specs.Handed.{handedContext}
-use Rattle.resolving_laws.proofs.All.{All, finished, also, all-firsts, all-map}
+use Rattle.text.proofs.All.{All, finished, also, all-firsts, all-map}
 use Rattle.resolve_context.specs.Lists.{Stands, Sound, namesIn, covariatesOf}
 use Rattle.resolve_context.specs.declared.Names.{Names}
 use Rattle.resolve_context.specs.declared.Layout.{Layout}
@@ -155,7 +154,7 @@ module _ (c : Context) (work listed : List ℕ) (count k : ℕ) (known : GroupsK
           length-map (groups effects) (groundOf c effects),
         )
 
--- groups that stand in the buffer of `merging`, from 6,144 on
+-- groups that stand in the buffer of `resolve_merging`, from 6,144 on
 pub buffer-known :
     {c : Context} {work : List ℕ} {count groups : ℕ}
     → GroupsStand (map effectOf (take count work)) work groups
@@ -168,7 +167,7 @@ buffer-known {work = work} s e h = record {
   room = omega (arith, s .few, h, length-drop 6144 work);
 }
 
--- groups of few effects, as `merging_few` lists them
+-- groups of few effects, as `resolve_merging_few` lists them
 pub few-known :
     {c : Context} {work listed : List ℕ} {count groups : ℕ}
     → GroupsListed (map effectOf (take count work)) listed groups

@@ -13,15 +13,14 @@ use Rattle.labels.specs.declared.Family.the-variants.{CovariateEffect}
 use Rattle.reading.specs.Statement.{modes, Operator, multiply, add, Statement}
 use Rattle.reading.specs.Parts.{partsOf, featureParts}
 use Rattle.canonical.specs.Canonical.{sign, keywordAt, modesShapes, operandShapes, operatorShapes, argumentShapes, statementShapes}
-use Rattle.print_parts.proofs.Bytes.{spell-append}
+use Rattle.tokens.proofs.Spelling.{spell-append}
 use Rattle.print_statements.specs.Bytes.{headOf}
 use Rattle.print_statements.proofs.Bytes.{call-bytes, name-alone}
-use Rattle.print_render.specs.Text.{jointOf, pieceOf}
-use Rattle.print_render.specs.Text.{restOf}
+use Rattle.canonical.specs.Lines.{jointOf, pieceOf, restOf}
 use Rattle.resolving.specs.Context.{Context, covariates}
 use Rattle.resolving.specs.Brought.{plainName, listed}
 use Rattle.resolving.specs.Ground.{Group, operatorAs, isOptional, groundCovariate}
-use Rattle.resolving_laws.proofs.All.{All, finished, also}
+use Rattle.text.proofs.All.{All, finished, also}
 use Rattle.resolve_grounding.proofs.Sizes.{variables-short}
 
 -- an argument, and those behind it

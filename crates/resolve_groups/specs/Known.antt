@@ -4,7 +4,7 @@ use mathlib.Core.List.{List, map}
 use lib.ListN.{length, take}
 use Rattle.resolving.specs.Context.{Context, covariates}
 use Rattle.resolving.specs.Effects.{Effect}
-use Rattle.resolving_laws.proofs.All.{All}
+use Rattle.text.proofs.All.{All}
 use Rattle.resolve_merging.specs.Packing.{effectOf}
 use Rattle.resolve_merging.specs.Outcomes.{GroupsListed}
 

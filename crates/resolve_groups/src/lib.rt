@@ -5,7 +5,7 @@ ghost use Prim.Native.Nat.{_≤_};
 ghost use lib.ListN.{take};
 ghost use Rattle.labels.specs.Table.{labelTable, keywordTable};
 ghost use Rattle.print_writing.specs.Written.{Written};
-ghost use Rattle.print_render.specs.Text.{restOf};
+ghost use Rattle.canonical.specs.Lines.{restOf};
 ghost use Rattle.resolving.specs.Ground.{groundEffects};
 ghost use Rattle.resolving.specs.Handed.{handedContext};
 ghost use Rattle.resolve_context.specs.Lists.{Stands};
@@ -42,7 +42,7 @@ pub fn put_groups(
     while j < groups {
         let group = listed[2 * j];
         let packed = listed[2 * j + 1];
-        next = print_render::put_joint(before + j, out, next);
+        next = print_statements::put_joint(before + j, out, next);
         next = resolve_grounding::put_group(
             block,
             lists,

@@ -10,11 +10,11 @@ use borrow.Author.Tests.{eqb-true, leb-true, ltb-true, ltb-false, lt-leb, le-leb
 use lib.Dec.{eqb, leb, ltb}
 use lib.ListN.{length, take, getD, set}
 use lib.Seq.{slice, getD-take, length-take-le}
-use Rattle.resolving.specs.Lists.{any}
+use Rattle.text.specs.Lists.{any}
 use Rattle.resolving.specs.Merging.{forcesWith}
 use Rattle.resolving_laws.specs.Flat.{Term, forcedBefore, forcedAfter}
-use Rattle.resolving_laws.proofs.Appended.{any-append}
-use Rattle.resolving_laws.proofs.Clashing.{any-never}
+use Rattle.text.proofs.Appended.{any-append}
+use Rattle.text.proofs.Clashing.{any-never}
 use Rattle.resolve_merging.specs.Packing.{effectOf, termOf, pairOf}
 use Rattle.resolve_merging.specs.Runs.{forcedIn}
 use Rattle.resolve_merging.specs.Tables.{place, entry, tally, Tallied, Agree, zeros}

@@ -10,13 +10,12 @@ use lib.Dec.{eqb, ltb}
 use lib.ListN.{length, take, getD, length-append}
 use lib.Seq.{slice}
 use Rattle.text.specs.Bytes.{memberOf}
-use Rattle.token_laws.specs.Shaped.{all}
-use Rattle.token_laws.proofs.Tests.{and-left, and-right}
+use Rattle.text.specs.Lists.{all, keep}
+use Rattle.text.proofs.Tests.{and-left, and-right}
 use Rattle.reading_laws.specs.WellFormed.{noneTwice}
 use Rattle.reading_laws.proofs.Places.{few-places}
 use Rattle.read_packs.specs.Packs.{places, withMode, Snug, Joined}
 use Rattle.read_packs.proofs.Packed.{no-place}
-use Rattle.resolving.specs.Lists.{keep}
 use Rattle.resolve_merging.specs.Packing.{bare, groupNumber, formNumber}
 use Rattle.resolve_merging.specs.Runs.{formsOf}
 use Rattle.resolve_merging.specs.Outcomes.{Plain}

@@ -9,8 +9,8 @@ use borrow.Author.Tests.{eq-eqb, ne-eqb, eqb-true, eqb-false, le-leb, lt-leb}
 use lib.Dec.{eqb}
 use lib.ListN.{length, take, drop, getD, set, length-set, length-append, List·getD-append, take-append-drop}
 use lib.Seq.{getD-append-seam, set-getD, getD-set-same, getD-set-other, take-set-le, take-take, getD-take, length-take-le}
-use Rattle.resolving.specs.Lists.{any, firsts}
-use Rattle.resolving_laws.proofs.Appended.{map-append, firsts-one-more}
+use Rattle.text.specs.Lists.{any, firsts}
+use Rattle.text.proofs.Appended.{map-append, firsts-one-more}
 use Rattle.resolve_merging.specs.Packing.{pairOf, groupNumber}
 use Rattle.resolve_merging.specs.Flags.{flagged, withFlag}
 use Rattle.resolve_merging.specs.Runs.{groupsIn}

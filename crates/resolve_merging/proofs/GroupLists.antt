@@ -8,10 +8,10 @@ use mathlib.Core.List.{List, [], _∷_, map}
 use borrow.Author.Tests.{eq-eqb, eqb-true, eqb-false}
 use lib.Dec.{eqb}
 use lib.ListN.{length, getD}
-use Rattle.resolving.specs.Lists.{any}
-use Rattle.resolving_laws.proofs.All.{All, finished, also, neither-one, all-of, all-map, all-firsts}
-use Rattle.resolving_laws.proofs.Clashing.{clashes}
-use Rattle.resolving_laws.proofs.Runs.{any-firsts}
+use Rattle.text.specs.Lists.{any}
+use Rattle.text.proofs.All.{All, finished, also, neither-one, all-of, all-map, all-firsts}
+use Rattle.text.proofs.Clashing.{clashes}
+use Rattle.text.proofs.Runs.{any-firsts}
 use Rattle.resolve_merging.specs.Packing.{pairOf, groupNumber}
 use Rattle.resolve_merging.specs.Runs.{groupsIn}
 

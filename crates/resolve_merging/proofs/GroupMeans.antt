@@ -9,7 +9,7 @@ use borrow.Author.Tests.{le-leb, lt-leb}
 use lib.Dec.{eqb}
 use lib.ListN.{length, take, drop, getD, length-map, List·getD-map}
 use lib.Seq.{drop-cons}
-use Rattle.resolving.specs.Lists.{keep, firsts}
+use Rattle.text.specs.Lists.{keep, firsts}
 use Rattle.resolving.specs.Effects.{Effect}
 use Rattle.resolving.specs.Ground.{Group, groupOf, sameGroup, groups, formsIn}
 use Rattle.resolve_merging.specs.declared.Step.the-variants as steps

@@ -10,8 +10,8 @@ use lib.Dec.{eqb, ltb}
 use lib.ListN.{length, take, drop, getD, set, length-set}
 use lib.Seq.{getD-drop, getD-take, getD-set-same, getD-set-other, take-set-le, length-take-le}
 use Rattle.read_packs.specs.Packs.{places, Snug, Joined}
-use Rattle.resolving_laws.proofs.All.{All, finished, also, all-map, all-firsts}
-use Rattle.resolving_laws.proofs.Once.{firsts-once}
+use Rattle.text.proofs.All.{All, finished, also, all-map, all-firsts}
+use Rattle.text.proofs.Once.{firsts-once}
 use Rattle.resolve_merging.specs.Packing.{pairOf, groupNumber, formNumber}
 use Rattle.resolve_merging.specs.Flags.{byteAt, withByte}
 use Rattle.resolve_merging.specs.Runs.{groupsIn, formsOf}

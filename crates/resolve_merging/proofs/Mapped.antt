@@ -3,7 +3,7 @@
 use mathlib.Core.Path.{_≡_, refl, _∙_, ap}
 use mathlib.Core.Bool.{Bool, true, false, cond, not, _||_}
 use mathlib.Core.List.{List, [], _∷_, _++_, map}
-use Rattle.resolving.specs.Lists.{any, keep, firsts}
+use Rattle.text.specs.Lists.{any, keep, firsts}
 
 pub append-none : {A : Type 0} (l : List A) → l ++ [] ≡ l
 append-none [] = refl

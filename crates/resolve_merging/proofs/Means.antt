@@ -5,7 +5,7 @@ use mathlib.Core.Path.{_≡_, refl, sym, _∙_, ap, fun-ext}
 use mathlib.Core.Bool.{Bool, not}
 use mathlib.Core.List.{List, [], _∷_, map}
 use lib.Dec.{eqb}
-use Rattle.resolving.specs.Lists.{keep, firsts}
+use Rattle.text.specs.Lists.{keep, firsts}
 use Rattle.resolving.specs.Effects.{Effect}
 use Rattle.resolving.specs.Brought.{Brought}
 use Rattle.resolving.specs.Merging.{sameEffect, alsoMandatory, merge, merged, remaining, forcedAgain}

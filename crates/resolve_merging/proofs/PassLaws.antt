@@ -6,12 +6,12 @@ use mathlib.Core.Bool.{Bool, true, false, cond, not, _&&_, _||_}
 use mathlib.Core.List.{List, [], _∷_, _++_, map, append-assoc}
 use borrow.Author.Tests.{eqb-false}
 use lib.Dec.{eqb}
-use Rattle.resolving.specs.Lists.{any, keep, firsts}
+use Rattle.text.specs.Lists.{any, keep, firsts}
 use Rattle.resolving.specs.Effects.{Effect}
 use Rattle.resolving.specs.Merging.{samePair, sameForm, isMandatory}
 use Rattle.resolving_laws.specs.Flat.{Term}
-use Rattle.resolving_laws.proofs.Bools.{and-sym}
-use Rattle.resolving_laws.proofs.Appended.{map-append, firsts-one-more}
+use Rattle.text.proofs.Bools.{and-sym}
+use Rattle.text.proofs.Appended.{map-append, firsts-one-more}
 use Rattle.resolve_merging.specs.declared.Step.the-variants as steps
 use Rattle.resolve_merging.specs.declared.Pass.the-variants as passes
 use Rattle.resolve_merging.specs.Packing.{effectOf, termOf, bare, pairOf}

@@ -8,7 +8,7 @@ use mathlib.Core.Bool.{Bool, false, _||_}
 use mathlib.Core.List.{List, [], _∷_}
 use lib.ListN.{length, take, getD, length-take, drop-of-length-le}
 use lib.Seq.{slice, slice-cons}
-use Rattle.resolving.specs.Lists.{any}
+use Rattle.text.specs.Lists.{any}
 
 pub slice-next : (l : List ℕ) (k to : ℕ) → k < to → to ≤ length l → slice k to l ≡ getD l k 0 ∷ slice (k + 1) to l
 slice-next l k to h g = slice-cons k to l 0 h g ∙ ap (λ (j : ℕ). getD l k 0 ∷ slice j to l) (sym (add-one k))

@@ -10,16 +10,15 @@ use lib.Dec.{eqb}
 use lib.ListN.{take}
 use Rattle.reading.specs.Answer.{accepted}
 use Rattle.reading_laws.specs.WellFormed.{noneTwice}
-use Rattle.token_laws.specs.Shaped.{all}
-use Rattle.resolving.specs.Lists.{any, keep, firsts}
+use Rattle.text.specs.Lists.{all, any, keep, firsts}
 use Rattle.resolving.specs.Faults.{forcedTwice}
 use Rattle.resolving.specs.Brought.{Brought}
 use Rattle.resolving.specs.Merging.{forcedAgain, merged}
 use Rattle.resolving.specs.Resolve.{atMostOnce}
 use Rattle.resolving_laws.specs.Flat.{termsFrom}
-use Rattle.resolving_laws.proofs.All.{All, finished, also, neither-one, all-of, all-map, all-firsts}
-use Rattle.resolving_laws.proofs.Clashing.{clashes}
-use Rattle.resolving_laws.proofs.Once.{firsts-once}
+use Rattle.text.proofs.All.{All, finished, also, neither-one, all-of, all-map, all-firsts}
+use Rattle.text.proofs.Clashing.{clashes}
+use Rattle.text.proofs.Once.{firsts-once}
 use Rattle.resolve_merging.specs.declared.Found.{Found}
 use Rattle.resolve_merging.specs.declared.Found.the-variants as found
 use Rattle.resolve_merging.specs.declared.Outcome.the-variants as outcomes

@@ -9,7 +9,7 @@ use mathlib.Core.List.{List, [], _∷_, _++_, append-assoc}
 use lib.Dec.{eqb}
 use lib.ListN.{length, take, getD, set, length-set}
 use lib.Seq.{getD-set-other, take-set-le, take-suc-set}
-use Rattle.resolving.specs.Lists.{keep}
+use Rattle.text.specs.Lists.{keep}
 use Rattle.resolve_merging.specs.declared.Pass.{Pass}
 use Rattle.resolve_merging.specs.Packing.{pairOf}
 use Rattle.resolve_merging.specs.Tables.{place, entry, updated, tally, Agree}

@@ -43,7 +43,7 @@ pub record Settles (n : ℕ) (before after : List ℕ) (r : Outcome) : Type 0 wh
       (bs : List Brought) → map termOf (take n before) ≡ termsFrom 0 bs
       → outcomeAs after r ≡ atMostOnce forcedTwice (forcedAgain bs) (accepted (merged bs))
 
--- a group's number, and its forms as `packs` has modes, from 6,144 on
+-- a group's number, and its forms as `read_packs` has modes, from 6,144 on
 abbrev pub groupAt : List ℕ → ℕ → ℕ
 groupAt work j = getD work (6144 + 2 * j) 0
 

@@ -4,7 +4,7 @@ use mathlib.Core.Bool.{Bool, not}
 use mathlib.Core.List.{List, [], map}
 use mathlib.Core.Option.{Option}
 use lib.Dec.{eqb}
-use Rattle.resolving.specs.Lists.{keep, firsts}
+use Rattle.text.specs.Lists.{keep, firsts}
 use Rattle.resolving.specs.Merging.{alsoMandatory}
 use Rattle.resolving_laws.specs.Flat.{overriddenAmong, forcedAfter}
 use Rattle.resolve_merging.specs.Packing.{effectOf, termOf, bare, groupNumber, formNumber}

@@ -8,7 +8,7 @@ ghost use Prim.Native.Nat.{_≤_, _<_};
 ghost use lib.Dec.{eqb};
 ghost use lib.ListN.{length, take, getD, set};
 ghost use Rattle.read_packs.specs.Packs.{places, Snug};
-ghost use Rattle.resolving.specs.Lists.{any};
+ghost use Rattle.text.specs.Lists.{any};
 ghost use Rattle.resolve_merging.specs.Packing.{effectOf, pairOf, groupNumber};
 ghost use Rattle.resolve_merging.specs.Flags.{flagged, withFlag, byteAt, withByte};
 ghost use Rattle.resolve_merging.specs.Runs.{remainingIn, unitedIn, groupsIn};
@@ -23,7 +23,7 @@ pub const TERMS: usize = 2048;
 // The table, from here on: a number for each of 4,096 pairs.
 pub const TABLE: usize = 2048;
 
-// The groups, from here on, two numbers each: the group's and its forms, as `packs` has modes.
+// The groups, from here on, two numbers each: the group's and its forms, as `read_packs` has modes.
 pub const GROUPS: usize = 6144;
 
 pub const MOST_GROUPS: usize = 256;

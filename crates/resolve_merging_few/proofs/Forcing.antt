@@ -1,4 +1,4 @@
--- A pair that is forced again, term by term: a scan of the terms before it tells what the table of `merging` would.
+-- A pair that is forced again, term by term: a scan of the terms before it tells what the table of `resolve_merging` would.
 -- Assumes nothing.
 use Prim.Native.Nat.{ℕ, _+_, _/_, _%_, _≤_, _<_}
 use native.Mathlib.Omega.{arith}

@@ -9,13 +9,13 @@ use borrow.Author.Tests.{ne-eqb, eqb-false, lt-ltb}
 use lib.Dec.{eqb, ltb}
 use lib.ListN.{length, length-append}
 use Rattle.text.specs.Bytes.{memberOf}
-use Rattle.token_laws.specs.Shaped.{all}
-use Rattle.token_laws.proofs.Tests.{and-left, and-right}
+use Rattle.text.specs.Lists.{all}
+use Rattle.text.proofs.Tests.{and-left, and-right}
 use Rattle.reading_laws.specs.WellFormed.{noneTwice}
 use Rattle.reading_laws.proofs.Places.{few-places}
 use Rattle.read_packs.specs.Packs.{unpack, places, Snug, Joined}
 use Rattle.read_packs.proofs.Packed.{no-place, groups}
-use Rattle.resolving_laws.proofs.All.{neither-one}
+use Rattle.text.proofs.All.{neither-one}
 use Rattle.resolve_merging_few.specs.Listing.{Formed}
 
 -- one more that a list has not

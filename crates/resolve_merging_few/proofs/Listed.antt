@@ -1,4 +1,4 @@
--- Groups that stand in the buffer of `merging`, as a run of their own; and the other way, so that its laws tell what a run of groups means.
+-- Groups that stand in the buffer of `resolve_merging`, as a run of their own; and the other way, so that its laws tell what a run of groups means.
 -- Assumes nothing.
 use Prim.Native.Nat.{ℕ, _+_, _*_, _-_, _≤_, _<_}
 use native.Mathlib.Omega.{arith}
@@ -56,7 +56,7 @@ listed-few work m s =
       length-take m work,
     )
 
--- A run of groups behind effects and a table of zeros, as `merging` has them.
+-- A run of groups behind effects and a table of zeros, as `resolve_merging` has them.
 module _ (work listed : List ℕ) (m : ℕ) (low : m ≤ 64) (room : m ≤ length work) where
   abbrev front : List ℕ
   front = take m work ++ replicate (6144 - m) 0

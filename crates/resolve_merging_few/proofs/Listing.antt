@@ -12,10 +12,10 @@ use lib.Seq.{getD-append-seam, getD-set-same, getD-set-other, length-take-le}
 use Rattle.text.specs.Bytes.{memberOf}
 use Rattle.read_packs.specs.Packs.{places, Joined}
 use Rattle.read_packs.proofs.Packed.{no-place}
-use Rattle.resolving.specs.Lists.{any, keep, firsts}
-use Rattle.resolving_laws.proofs.Appended.{keep-append, map-append, firsts-one-more}
-use Rattle.resolving_laws.proofs.Once.{firsts-once}
-use Rattle.resolving_laws.proofs.Runs.{any-firsts}
+use Rattle.text.specs.Lists.{any, keep, firsts}
+use Rattle.text.proofs.Appended.{keep-append, map-append, firsts-one-more}
+use Rattle.text.proofs.Once.{firsts-once}
+use Rattle.text.proofs.Runs.{any-firsts}
 use Rattle.resolve_merging.specs.Packing.{effectOf, bare, groupNumber, formNumber}
 use Rattle.resolve_merging.specs.Runs.{groupsIn, formsOf}
 use Rattle.resolve_merging.specs.Outcomes.{GroupsListed}

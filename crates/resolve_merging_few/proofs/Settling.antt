@@ -8,7 +8,7 @@ use mathlib.Core.List.{List, [], map}
 use mathlib.Core.Option.{some, none}
 use lib.Dec.{eqb}
 use lib.ListN.{take}
-use Rattle.resolving.specs.Lists.{any, firsts}
+use Rattle.text.specs.Lists.{any, firsts}
 use Rattle.resolve_merging.specs.declared.Outcome.the-variants as outcomes
 use Rattle.resolve_merging.specs.Packing.{bare}
 use Rattle.resolve_merging.specs.Runs.{remainingIn, forcedIn, unitedIn}

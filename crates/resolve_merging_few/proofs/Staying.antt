@@ -7,12 +7,12 @@ use mathlib.Core.Bool.{Bool, true, false, cond, not, _&&_, _||_, true≢false}
 use mathlib.Core.List.{List, [], _∷_, _++_, map, append-assoc}
 use borrow.Author.Tests.{eq-eqb, eqb-true, eqb-false}
 use lib.Dec.{eqb}
-use Rattle.resolving.specs.Lists.{any, keep}
+use Rattle.text.specs.Lists.{any, keep}
 use Rattle.resolving.specs.Effects.{Effect}
 use Rattle.resolving.specs.Merging.{samePair, sameForm, isMandatory}
 use Rattle.resolving_laws.specs.Flat.{Term}
-use Rattle.resolving_laws.proofs.All.{neither-one}
-use Rattle.resolving_laws.proofs.Appended.{any-append, keep-append}
+use Rattle.text.proofs.All.{neither-one}
+use Rattle.text.proofs.Appended.{any-append, keep-append}
 use Rattle.resolve_merging.specs.Packing.{effectOf, termOf, bare, pairOf}
 use Rattle.resolve_merging.specs.Runs.{overriddenIn, remainingIn, alsoMandatoryIn}
 use Rattle.resolve_merging.proofs.Mapped.{append-none, any-map}

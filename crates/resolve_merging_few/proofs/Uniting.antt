@@ -10,9 +10,9 @@ use borrow.Author.Tests.{eqb-true}
 use lib.Dec.{eqb}
 use lib.ListN.{length, take, getD, set, length-take}
 use lib.Seq.{take-suc-set, getD-set-other}
-use Rattle.resolving.specs.Lists.{any, firsts}
-use Rattle.resolving_laws.proofs.Appended.{map-append, firsts-one-more}
-use Rattle.resolving_laws.proofs.Runs.{any-firsts}
+use Rattle.text.specs.Lists.{any, firsts}
+use Rattle.text.proofs.Appended.{map-append, firsts-one-more}
+use Rattle.text.proofs.Runs.{any-firsts}
 use Rattle.resolve_merging.specs.Packing.{bare}
 use Rattle.resolve_merging.specs.Tables.{Kept}
 use Rattle.resolve_merging.proofs.Fields.{bare-twice}

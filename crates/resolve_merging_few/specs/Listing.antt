@@ -6,7 +6,7 @@ use mathlib.Core.Path.{_≡_}
 use lib.Dec.{ltb}
 use lib.ListN.{getD, set}
 use Rattle.text.specs.Bytes.{memberOf}
-use Rattle.token_laws.specs.Shaped.{all}
+use Rattle.text.specs.Lists.{all}
 use Rattle.reading_laws.specs.WellFormed.{noneTwice}
 use Rattle.read_packs.specs.Packs.{places, Snug, Joined}
 use Rattle.resolve_merging.specs.Packing.{bare, groupNumber, formNumber}

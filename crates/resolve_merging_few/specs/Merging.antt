@@ -1,9 +1,9 @@
--- What merging and grouping answer together, in the words of `merging`.
+-- What merging and grouping answer together, in the words of `resolve_merging`.
 use Prim.Native.Nat.{ℕ}
 use mathlib.Core.List.{List, map}
 use lib.Dec.{eqb}
 use lib.ListN.{take}
-use Rattle.resolving.specs.Lists.{firsts}
+use Rattle.text.specs.Lists.{firsts}
 use Rattle.resolve_merging.specs.declared.Outcome.{Outcome}
 use Rattle.resolve_merging.specs.declared.Outcome.the-variants as outcomes
 use Rattle.resolve_merging.specs.Packing.{effectOf, bare}

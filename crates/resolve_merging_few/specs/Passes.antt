@@ -6,7 +6,7 @@ use mathlib.Core.Path.{_≡_}
 use lib.Dec.{eqb}
 use lib.ListN.{take, getD, set}
 use lib.Seq.{slice}
-use Rattle.resolving.specs.Lists.{any, keep}
+use Rattle.text.specs.Lists.{any, keep}
 use Rattle.resolve_merging.specs.Packing.{bare, pairOf}
 use Rattle.resolve_merging.specs.Runs.{alsoMandatoryIn}
 use Rattle.resolve_merging_few.specs.declared.Sought.{Sought}

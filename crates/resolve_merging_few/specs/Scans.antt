@@ -4,7 +4,7 @@ use mathlib.Core.Bool.{Bool, _&&_}
 use mathlib.Core.List.{List}
 use mathlib.Core.Option.{Option, some, none}
 use lib.Dec.{eqb, ltb}
-use Rattle.resolving.specs.Lists.{any}
+use Rattle.text.specs.Lists.{any}
 use Rattle.resolve_merging.specs.Packing.{bare, pairOf}
 use Rattle.resolve_merging_few.specs.declared.Sought.{Sought}
 use Rattle.resolve_merging_few.specs.declared.Sought.the-variants as sought

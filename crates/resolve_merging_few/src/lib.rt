@@ -1,4 +1,4 @@
-// Merging and grouping of few terms by scans, so that no table is needed. The answers are those of `merging`.
+// Merging and grouping of few terms by scans, so that no table is needed. The answers are those of `resolve_merging`.
 ghost use mathlib.Core.Path.{_≡_};
 ghost use mathlib.Core.Bool.{_||_};
 ghost use mathlib.Core.List.{[]};
@@ -6,7 +6,7 @@ ghost use Prim.Native.Nat.{_*_, _≤_, _<_};
 ghost use lib.ListN.{length, take, getD};
 ghost use lib.Seq.{slice};
 ghost use Rattle.read_packs.specs.Packs.{Joined};
-ghost use Rattle.resolving.specs.Lists.{any};
+ghost use Rattle.text.specs.Lists.{any};
 ghost use Rattle.resolve_merging.specs.Packing.{groupNumber};
 ghost use Rattle.resolve_merging.specs.Runs.{remainingIn, forcedIn};
 ghost use Rattle.resolve_merging.specs.Passes.{Left};
@@ -266,7 +266,7 @@ fn unite_one(work: &mut [u32], listed: &mut [u32], at: usize, k: usize, i: usize
 }
 
 // The effects of the first so many terms without repeats, from 0 on, and their groups, two numbers each from 0 on: the group's and its forms, as
-// `packs` has modes. How many there are.
+// `read_packs` has modes. How many there are.
 fn unite_all(work: &mut [u32], n: usize, listed: &mut [u32]) -> United
     requires { ⌜ (n ≤ 64) × (n ≤ length (now work)) × (128 ≤ length (now listed)) ⌝ }
     ensures { λ r. ⌜ AllUnited n (now (work .entry)) (now (work .exit)) (now (listed .exit)) r ⌝ }

@@ -8,11 +8,11 @@ use native.Mathlib.Numerals.{add-one}
 use native.Mathlib.Omega.{arith}
 use lib.ListN.{length, take}
 use Rattle.reading.specs.Answer.{accepted, refused}
-use Rattle.resolving.specs.Lists.{placeIn, sameBytes}
+use Rattle.text.specs.Lists.{placeIn, sameBytes}
 use Rattle.resolving.specs.Faults.{unknownName}
 use Rattle.resolving.specs.Operands.{held}
 use Rattle.resolve_symbols.specs.Brings.{broughtBy}
-use Rattle.resolving_laws.proofs.All.{All}
+use Rattle.text.proofs.All.{All}
 use Rattle.resolve_operands.specs.Picked.{withIndex, PickedAs}
 use Rattle.resolve_operands.specs.declared.Entries.{Entries}
 use Rattle.resolve_operands.proofs.Holding.{held-one-more, held-missing, held-below, picked-of}

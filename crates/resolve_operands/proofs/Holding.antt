@@ -13,14 +13,13 @@ use lib.Seq.{length-take-le}
 use Rattle.reading.specs.Answer.{Answer, accepted, refused, _>>=_}
 use Rattle.reading_laws.specs.WellFormed.{given}
 use Rattle.reading_laws.proofs.Giving.{value-given}
-use Rattle.reading_laws.proofs.Accepting.{value-of}
-use Rattle.resolving.specs.Lists.{firsts, placeIn, sameBytes}
+use Rattle.reading.proofs.Answers.{value-of, not-refused}
+use Rattle.text.specs.Lists.{firsts, placeIn, sameBytes}
 use Rattle.resolving.specs.Faults.{unknownName}
 use Rattle.resolving.specs.Operands.{entered, entryOf, entriesOf, held}
-use Rattle.resolving_laws.proofs.All.{All, finished, also, all-weaker}
-use Rattle.resolving_laws.proofs.Appended.{firsts-one-more}
-use Rattle.resolving_laws.proofs.Runs.{any-firsts}
-use Rattle.resolving_laws.proofs.Passed.{refused≢accepted}
+use Rattle.text.proofs.All.{All, finished, also, all-weaker}
+use Rattle.text.proofs.Appended.{firsts-one-more}
+use Rattle.text.proofs.Runs.{any-firsts}
 use Rattle.resolving_laws.proofs.Entries.{held-gives}
 use Rattle.resolving_laws.proofs.Fewness.{place-below}
 use Rattle.resolve_operands.specs.Picked.{withIndex, PickedAs}
@@ -65,7 +64,7 @@ module _ (list : List (List ℕ)) where
       where
         by-entries : (a : Answer (List ℕ)) → entriesOf list vs ≡ a → (a >>= λ js. accepted (firsts eqb js)) ≡ accepted is → Entered list vs is
         by-entries (accepted js) q r = record { indexes = js; are = q; once = value-of r }
-        by-entries (refused n p) q r = absurd (refused≢accepted r)
+        by-entries (refused n p) q r = absurd (not-refused r)
 
     -- the answer, from what one name and those behind it answer
     then-held : (ws : List (List ℕ))

@@ -11,9 +11,9 @@ use types.Run.{OneOf, hit, miss}
 use denote.Enum.Declared.{tagOf}
 use Rattle.tokens.specs.Token.{Tokens}
 use Rattle.reading.specs.Statement.{Item}
-use Rattle.resolving.specs.Lists.{placeIn, sameBytes}
+use Rattle.text.specs.Lists.{placeIn, sameBytes}
 use Rattle.resolving.specs.Handed.{handedContext}
-use Rattle.resolving_laws.proofs.Appended.{map-append}
+use Rattle.text.proofs.Appended.{map-append}
 use Rattle.read_forms.specs.declared.Items.{Items}
 use Rattle.read_forms.specs.Items.{tokensFrom, entries, afterEntries, listed, itemsIn, rest}
 use Rattle.read_forms.specs.Fits.{Listed}

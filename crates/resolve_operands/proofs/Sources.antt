@@ -11,7 +11,7 @@ use Rattle.reading.specs.Answer.{Answer, accepted}
 use Rattle.resolving.specs.Context.{Context}
 use Rattle.resolving.specs.Handed.{handedContext}
 use Rattle.resolving.specs.Operands.{known, namesOf, held}
-use Rattle.resolving_laws.proofs.All.{All, finished}
+use Rattle.text.proofs.All.{All, finished}
 use Rattle.read_forms.specs.declared.Name.{Name}
 use Rattle.read_forms.specs.declared.Items.{Items}
 use Rattle.read_forms.specs.declared.Operand.{Operand}

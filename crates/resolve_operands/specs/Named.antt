@@ -5,7 +5,7 @@ use mathlib.Core.List.{List, [], _∷_, map}
 use mathlib.Core.Option.{Option, some, none}
 use mathlib.Core.Path.{_≡_}
 use Rattle.tokens.specs.Next.{cursor}
-use Rattle.resolving.specs.Lists.{placeIn, sameBytes}
+use Rattle.text.specs.Lists.{placeIn, sameBytes}
 use Rattle.read_forms.specs.declared.Items.{Items}
 use Rattle.read_forms.specs.Items.{tokensFrom, entries, afterEntries}
 use Rattle.read_forms.specs.Fits.{InText}

@@ -162,13 +162,13 @@ fn place_of(text: &[u8], block: &[u8], lists: &[u32], target: Names, named: Name
             block,
             lists,
             target,
-            resolve_symbols::spelling(text, name),
+            read_forms::spelling(text, name),
         )),
         Named::Block(name) => placed_by(resolve_context::index_of(
             block,
             lists,
             target,
-            resolve_symbols::spelling(block, name),
+            read_forms::spelling(block, name),
         )),
         Named::Nothing => Placed::NoName,
     }
@@ -252,7 +252,7 @@ fn source_of<'a>(
 {
     let word = match operand {
         Operand::Names(items) => return Looked::Names(Source::Values(items)),
-        Operand::Symbol(name) => resolve_symbols::spelling(text, name),
+        Operand::Symbol(name) => read_forms::spelling(text, name),
         Operand::Wildcard => {
             if every {
                 return Looked::Names(Source::Covariates);

@@ -3,13 +3,14 @@
 use Prim.Native.Nat.{ℕ, _+_, _*_, _/_, _%_, _≤_}
 use Rattle.reading.specs.Answer.{Answer, accepted, refused}
 use Rattle.resolving.specs.Call.{Lengths}
+use Rattle.words.specs.Word.{word}
 
 abbrev pub lengthsWord : Lengths → ℕ
 lengthsWord n = n .ground + n .effects * 65536 + n .notes * 1099511627776
 
 abbrev pub resolvedWord : Answer Lengths → ℕ
 resolvedWord (accepted n) = lengthsWord n
-resolvedWord (refused k p) = k * 4294967296 + p
+resolvedWord (refused k p) = word (refused k p)
 
 -- how many effects a word tells of
 abbrev pub effectsTold : ℕ → ℕ

@@ -10,7 +10,6 @@ ghost use Rattle.resolving.specs.Call.{resolveCall, lengthsOf, outputOf, workAf
 ghost use Rattle.resolve_settling.specs.Answers.{Packed, resolvedAs, lengthsAs, rooms, lent};
 ghost use Rattle.resolve_records.specs.Records.{recordOf, unpacked, noEffect, isOf};
 ghost use Rattle.resolve_records.specs.Words.{lengthsWord, resolvedWord, effectsTold, Small};
-use read_forms::Refusal;
 use resolve_settling::Lengths;
 use resolve_settling::Resolved;
 
@@ -94,13 +93,6 @@ fn lengths_word(n: Lengths) -> u64
     n.ground as u64 + n.effects as u64 * 65536 + n.notes as u64 * 1099511627776
 }
 
-fn refusal_word(refusal: Refusal) -> u64
-    requires { ⌜ refusal .place ≤ 16384 ⌝ }
-    ensures { λ r. ⌜ r ≡ refusal .number * 4294967296 + refusal .place ⌝ }
-{
-    refusal.number as u64 * 4294967296 + refusal.place as u64
-}
-
 // An answer as one number.
 fn resolved_word(resolved: Resolved) -> u64
     requires { ⌜ Small (resolvedAs resolved) ⌝ }
@@ -108,7 +100,7 @@ fn resolved_word(resolved: Resolved) -> u64
 {
     match resolved {
         Resolved::Lengths(n) => lengths_word(n),
-        Resolved::Refused(refusal) => refusal_word(refusal),
+        Resolved::Refused(refusal) => words::refusal_word(refusal),
     }
 }
 

@@ -11,9 +11,9 @@ use lib.Dec.{eqb}
 use lib.ListN.{length, length-append, length-map}
 use Rattle.reading.specs.Answer.{Answer, accepted, refused}
 use Rattle.reading.specs.Statement.{Statement}
-use Rattle.print_render.specs.Text.{restOf}
-use Rattle.print_render.proofs.Pieces.{canonical-pieces}
-use Rattle.resolving.specs.Lists.{any, gather}
+use Rattle.canonical.specs.Lines.{restOf}
+use Rattle.canonical.proofs.Lines.{canonical-pieces}
+use Rattle.text.specs.Lists.{any, gather}
 use Rattle.resolving.specs.Faults.{forcedTwice, tooLarge}
 use Rattle.resolving.specs.Context.{Context, covariates}
 use Rattle.resolving.specs.Symbols.{Meaning}
@@ -24,7 +24,7 @@ use Rattle.resolving.specs.Ground.{groups, groupOf, formsIn, groundCovariate, g
 use Rattle.resolving.specs.Resolve.{Resolved, groundText, droppedFrom, additive, atMostOnce, upTo, outcome, mergeAndGround}
 use Rattle.resolving.specs.Call.{noteNumbers}
 use Rattle.resolving_laws.specs.Flat.{term, termsFrom}
-use Rattle.resolving_laws.proofs.All.{All, all-weaker}
+use Rattle.text.proofs.All.{All, all-weaker}
 use Rattle.resolving_laws.proofs.Fewness.{place-below}
 use Rattle.resolving_laws.proofs.Passed.{gives-accepted}
 use Rattle.resolving_laws.proofs.Stands.{Written}

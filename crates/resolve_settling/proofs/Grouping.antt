@@ -10,7 +10,7 @@ use Rattle.reading.specs.Answer.{Answer}
 use Rattle.resolving.specs.Context.{Context}
 use Rattle.resolving.specs.Effects.{Effect}
 use Rattle.resolving.specs.Resolve.{Resolved}
-use Rattle.resolving_laws.proofs.All.{All}
+use Rattle.text.proofs.All.{All}
 use Rattle.resolve_merging.specs.Packing.{effectOf}
 use Rattle.resolve_merging.specs.Outcomes.{Settles, Groups, GroupsStand, GroupsListed}
 use Rattle.resolve_merging.specs.declared.Outcome.{Outcome}

@@ -10,8 +10,8 @@ use lib.ListN.{length, take, length-append, length-map}
 use lib.Seq.{length-take-le}
 use Rattle.print_writing.specs.Written.{Written}
 use Rattle.print_writing.proofs.Writing.{written-on}
-use Rattle.print_render.specs.Text.{restOf}
-use Rattle.resolving.specs.Lists.{any, gather}
+use Rattle.canonical.specs.Lines.{restOf}
+use Rattle.text.specs.Lists.{any, gather}
 use Rattle.resolving.specs.Context.{Context}
 use Rattle.resolving.specs.Effects.{Effect}
 use Rattle.resolving.specs.Merging.{merged}

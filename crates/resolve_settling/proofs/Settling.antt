@@ -8,10 +8,10 @@ use lib.ListN.{length, take, drop, length-map}
 use lib.Seq.{take-append-seam}
 use Rattle.reading.specs.Answer.{Answer, accepted, refused}
 use Rattle.reading.specs.Statement.{Statement}
-use Rattle.reading_laws.proofs.Accepting.{value-of}
+use Rattle.reading.proofs.Answers.{value-of}
 use Rattle.print_writing.specs.Written.{Written}
 use Rattle.print_writing.proofs.Writing.{patch-front, length-patch}
-use Rattle.resolving.specs.Lists.{gather}
+use Rattle.text.specs.Lists.{gather}
 use Rattle.resolving.specs.Context.{Context}
 use Rattle.resolving.specs.Effects.{Effect}
 use Rattle.resolving.specs.Brought.{Brought, defining, dropped, stays, brings, eachFrom}

@@ -6,8 +6,8 @@ use lib.ListN.{length, take}
 use Rattle.reading.specs.Statement.{Statement}
 use Rattle.reading.specs.Answer.{Answer}
 use Rattle.print_writing.specs.Written.{Written}
-use Rattle.print_render.specs.Text.{restOf}
-use Rattle.resolving.specs.Lists.{gather}
+use Rattle.canonical.specs.Lines.{restOf}
+use Rattle.text.specs.Lists.{gather}
 use Rattle.resolving.specs.Context.{Context}
 use Rattle.resolving.specs.Symbols.{Meaning}
 use Rattle.resolving.specs.Brought.{Brought, bring, eachFrom}

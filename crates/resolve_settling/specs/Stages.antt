@@ -4,7 +4,7 @@ use mathlib.Core.List.{List, map}
 use mathlib.Core.Path.{_≡_}
 use lib.ListN.{length, take}
 use Rattle.reading.specs.Answer.{Answer, accepted}
-use Rattle.resolving.specs.Lists.{gather}
+use Rattle.text.specs.Lists.{gather}
 use Rattle.resolving.specs.Context.{Context}
 use Rattle.resolving.specs.Brought.{Brought}
 use Rattle.resolving.specs.Ground.{staying}

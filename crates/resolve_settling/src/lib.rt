@@ -129,7 +129,7 @@ fn put_made(
     }))
 }
 
-// Up to some 30 terms, scans take less time than the table of `merging` does. (`merging_few` can do 64.)
+// Up to some 30 terms, scans take less time than the table of `resolve_merging` does. (`resolve_merging_few` can do 64.)
 pub const FEW_TERMS: usize = 32;
 
 // The answer of what the statements bring, if that is few terms: they are merged and grouped by scans.
@@ -181,7 +181,7 @@ pub fn settle_few(
 }
 
 // The answer of what the statements bring, of any number of terms: they stand on a bench that has room behind them for the table and the groups
-// of `merging`.
+// of `resolve_merging`.
 pub fn settle_many(
     block: &[u8],
     lists: &[u32],

@@ -8,12 +8,11 @@ use mathlib.Core.List.{List, [], _∷_, _++_, map, map-append, append-assoc, app
 use lib.ListN.{length, length-append}
 use Rattle.reading.specs.Answer.{Answer, accepted, refused, _>>=_}
 use Rattle.reading.specs.Statement.{Statement}
-use Rattle.reading_laws.proofs.Accepting.{value-of}
+use Rattle.reading.proofs.Answers.{value-of}
 use Rattle.print_writing.specs.Written.{Written}
 use Rattle.print_writing.proofs.Writing.{nothing-written, written-on}
-use Rattle.print_render.specs.Text.{pieceOf}
-use Rattle.print_render.specs.Text.{restOf}
-use Rattle.resolving.specs.Lists.{gather}
+use Rattle.canonical.specs.Lines.{pieceOf, restOf}
+use Rattle.text.specs.Lists.{gather}
 use Rattle.resolving.specs.Brought.{Brought, defining, dropped, stays, brings, atIndex, eachFrom}
 use Rattle.resolving.specs.Ground.{staying}
 use Rattle.resolving_laws.specs.Flat.{Term, term, termsFrom}

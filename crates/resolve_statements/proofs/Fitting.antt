@@ -11,8 +11,8 @@ use borrow.Author.Tests.{lt-ltb, ltb-true}
 use lib.Dec.{ltb, leb}
 use lib.ListN.{length}
 use Rattle.text.specs.Bytes.{every}
-use Rattle.token_laws.specs.Shaped.{all}
-use Rattle.token_laws.proofs.Tests.{and-left, and-right}
+use Rattle.text.specs.Lists.{all}
+use Rattle.text.proofs.Tests.{and-left, and-right}
 use Rattle.labels.specs.declared.Family.the-variants.{CovariateEffect}
 use Rattle.labels.specs.Label.{labelsOf}
 use Rattle.reading.specs.Statement as statement

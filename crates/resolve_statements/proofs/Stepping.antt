@@ -8,14 +8,13 @@ use mathlib.Core.List.{List, [], _∷_, map, append-nil}
 use lib.ListN.{length}
 use Rattle.reading.specs.Answer.{Answer, accepted}
 use Rattle.reading.specs.Statement.{Statement, feature}
-use Rattle.reading_laws.proofs.Accepting.{value-of}
+use Rattle.reading.proofs.Answers.{value-of}
 use Rattle.print_writing.specs.Written.{Written}
 use Rattle.print_writing.proofs.Writing.{nothing-written}
-use Rattle.print_render.specs.Text.{pieceOf}
+use Rattle.canonical.specs.Lines.{pieceOf, restOf}
 use Rattle.resolving.specs.Brought.{Brought, defining, dropped, stays, brings}
 use Rattle.resolving_laws.specs.Flat.{term}
 use Rattle.resolving.specs.Ground.{staying}
-use Rattle.print_render.specs.Text.{restOf}
 use Rattle.resolve_features.specs.Stays.{Stood}
 use Rattle.resolve_features.specs.Terms.{Termed}
 use Rattle.resolve_statements.specs.declared.Tally.{Tally}

@@ -5,8 +5,8 @@ use mathlib.Core.Path.{_≡_}
 use lib.ListN.{length}
 use Rattle.reading.specs.Answer.{Answer, accepted, refused}
 use Rattle.print_writing.specs.Written.{Written}
-use Rattle.print_render.specs.Text.{restOf}
-use Rattle.resolving.specs.Lists.{gather}
+use Rattle.canonical.specs.Lines.{restOf}
+use Rattle.text.specs.Lists.{gather}
 use Rattle.resolving.specs.Brought.{Brought, defining, dropped, stays, brings}
 use Rattle.resolving.specs.Ground.{staying}
 use Rattle.resolving_laws.specs.Flat.{termsFrom}

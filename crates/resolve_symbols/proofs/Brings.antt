@@ -7,8 +7,8 @@ use mathlib.Core.Option.{Option, some, none}
 use Prim.Native.Nat.{ℕ, _<_}
 use lib.Dec.{eqb}
 use lib.ListN.{length, getD}
-use Rattle.labels.specs.Word.{sameWord, oneLater}
-use Rattle.resolving.specs.Lists.{any, keep, placeIn, sameBytes}
+use Rattle.labels.specs.Word.{sameWord}
+use Rattle.text.specs.Lists.{oneLater, any, keep, placeIn, sameBytes}
 use Rattle.resolving.specs.Context.{Binding, Declared, continuous, categorical, kindNumber}
 use Rattle.resolving.specs.Builtins.{matching}
 use Rattle.resolving.specs.Given.{kindOf}

@@ -5,7 +5,7 @@ use mathlib.Core.Bool.{Bool, true, false, cond}
 use mathlib.Core.List.{List, []}
 use mathlib.Core.Option.{Option, some, none, Option·map}
 use Prim.Native.Nat.{ℕ}
-use Rattle.resolving.specs.Lists.{keep}
+use Rattle.text.specs.Lists.{keep}
 use Rattle.resolving.specs.Context.{Context}
 use Rattle.resolving.specs.Builtins.{everyRole, templated, declared}
 use Rattle.resolving.specs.Given.{kindOf}

@@ -17,8 +17,8 @@ use Rattle.reading.specs.Statement.{Item}
 use Rattle.resolving.specs.Context.{Context}
 use Rattle.resolving.specs.Builtins.{builtin}
 use Rattle.resolving.specs.Symbols.{Definition, definition, Meaning, letting, meaningAfter, lookUp}
-use Rattle.resolving_laws.proofs.Bools.{equally}
-use Rattle.resolving_laws.proofs.Appended.{any-append, map-append}
+use Rattle.text.proofs.Bools.{equally}
+use Rattle.text.proofs.Appended.{any-append, map-append}
 use Rattle.read_forms.specs.declared.Name.{Name}
 use Rattle.read_forms.specs.declared.Items.{Items}
 use Rattle.read_forms.specs.Items.{nameIn, itemsIn}

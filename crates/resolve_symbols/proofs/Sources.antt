@@ -14,13 +14,13 @@ use lib.ListN.{length, getD, drop, drop-of-length-le}
 use lib.Seq.{drop-cons}
 use Rattle.text.specs.Bytes.{every}
 use Rattle.text.proofs.Tests.{and-left, and-right}
-use Rattle.resolving.specs.Lists.{any, keep, gather, sameBytes}
+use Rattle.text.specs.Lists.{any, keep, gather, sameBytes}
 use Rattle.resolving.specs.Context.{Context, Binding}
 use Rattle.resolving.specs.Context as context
 use Rattle.resolving.specs.Builtins.{matching, everyRole, ofKind, templated, declared}
 use Rattle.resolving.specs.Given.{kindOf, onlyIf}
 use Rattle.resolving.specs.Handed.{handedContext}
-use Rattle.resolving_laws.proofs.Appended.{keep-append}
+use Rattle.text.proofs.Appended.{keep-append}
 use Rattle.resolve_context.specs.declared.Names.{Names}
 use Rattle.resolve_context.specs.declared.Layout.{Layout}
 use Rattle.resolve_context.specs.Lists.{Stands, layoutOf, namesIn, templateIn, blockIn, covariatesOf, countsOf, markFits, headsFit}

@@ -5,7 +5,7 @@ use mathlib.Core.Bool.{Bool, cond}
 use mathlib.Core.List.{List, [], _∷_, _++_}
 use mathlib.Core.Path.{_≡_}
 use lib.ListN.{getD}
-use Rattle.resolving.specs.Lists.{any, keep, sameBytes}
+use Rattle.text.specs.Lists.{any, keep, sameBytes}
 use Rattle.resolving.specs.Context.{Binding}
 use Rattle.resolving.specs.Context as context
 use Rattle.resolving.specs.Builtins.{matching, ofKind}

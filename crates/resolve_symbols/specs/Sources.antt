@@ -6,7 +6,7 @@ use mathlib.Core.List.{List, [], _∷_, map}
 use mathlib.Core.Option.{Option, some, none}
 use mathlib.Core.Path.{_≡_}
 use Rattle.text.specs.Bytes.{bytes}
-use Rattle.resolving.specs.Lists.{any, keep, sameBytes}
+use Rattle.text.specs.Lists.{any, keep, sameBytes}
 use Rattle.resolving.specs.Context.{Context, Binding, covariates}
 use Rattle.resolving.specs.Builtins.{everyRole, absorptionRoles, distributionRoles, templated, declared}
 use Rattle.resolving.specs.Given.{kindOf}

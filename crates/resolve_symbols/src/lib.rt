@@ -8,7 +8,7 @@ ghost use Prim.Native.Nat.{_+_, _*_, _≤_, _<_, min};
 ghost use lib.ListN.{length};
 ghost use lib.Dec.{eqb};
 ghost use Rattle.labels.specs.Word.{sameWord};
-ghost use Rattle.resolving.specs.Lists.{any, keep, sameBytes};
+ghost use Rattle.text.specs.Lists.{any, keep, sameBytes};
 ghost use Rattle.resolving.specs.Context.{kindNumber};
 ghost use Rattle.resolving.specs.Builtins as builtins;
 ghost use Rattle.resolving.specs.Builtins.{absorptionRoles, distributionRoles};
@@ -111,16 +111,6 @@ fn values_at(lets: &[u32], k: usize) -> Items
     }
 }
 
-// A name's bytes, as a part of the text.
-pub fn spelling(text: &[u8], name: Name) -> &[u8]
-    requires { ⌜ InText (now text) name ⌝ }
-    ensures { λ r. ⌜ now r ≡ nameIn (now (text .entry)) name .spelling ⌝ }
-{
-    let start = name.offset;
-    let end = start + name.length;
-    &text[start..end]
-}
-
 // The last of the first n LETs whose key the word is, ignoring case.
 fn find_let(text: &[u8], lets: &[u32], n: usize, word: &[u8]) -> Found
     requires { ⌜ LetsFit (now text) (now lets) n ⌝ }
@@ -141,7 +131,7 @@ pub fn has_let(text: &[u8], lets: &[u32], n: usize, key: Name) -> bool
     requires { ⌜ LetsFit (now text) (now lets) n × InText (now text) key ⌝ }
     ensures { λ r. ⌜ r ≡ hasKey (definitionsIn (now (text .entry)) (now (lets .entry)) n) (nameIn (now (text .entry)) key .spelling) ⌝ }
 {
-    match find_let(text, lets, n, spelling(text, key)) {
+    match find_let(text, lets, n, read_forms::spelling(text, key)) {
         Found::Place(k) => true,
         Found::Nothing => false,
     }
@@ -287,7 +277,7 @@ fn if_iiv(block: &[u8], lists: &[u32], layout: Layout, brought: Brought) -> Brou
     let Brought::Pair(name) = brought else {
         return Brought::Nothing;
     };
-    match resolve_context::index_of(block, lists, layout.iiv, spelling(block, name)) {
+    match resolve_context::index_of(block, lists, layout.iiv, read_forms::spelling(block, name)) {
         Found::Place(place) => Brought::Pair(name),
         Found::Nothing => Brought::Nothing,
     }

@@ -10,8 +10,8 @@ use Rattle.reading.specs.Answer.{Answer, accepted, refused}
 use Rattle.reading.specs.Statement.{Statement}
 use Rattle.print_writing.specs.Written.{Written}
 use Rattle.print_writing.proofs.Writing.{nothing-written, written-on}
-use Rattle.print_render.specs.Text.{restOf}
-use Rattle.resolving.specs.Lists.{gather}
+use Rattle.canonical.specs.Lines.{restOf}
+use Rattle.text.specs.Lists.{gather}
 use Rattle.resolving.specs.Brought.{Brought, defining, dropped, stays, brings, eachFrom}
 use Rattle.resolving.specs.Ground.{staying}
 use Rattle.resolve_statements.specs.declared.Tally.{Tally}

@@ -11,9 +11,9 @@ use mathlib.Core.List.{List, [], _∷_, _++_, append-nil}
 use mathlib.Core.Option.{Option, some, none}
 use lib.ListN.{length, take, drop}
 use lib.Seq.{append-snoc, drop-drop}
-use Rattle.labels.specs.Word.{sameWord, oneLater}
+use Rattle.labels.specs.Word.{sameWord}
+use Rattle.text.specs.Lists.{oneLater, any, again, againAfter}
 use Rattle.reading.specs.Statement.{Statement}
-use Rattle.resolving.specs.Lists.{any, again, againAfter}
 use Rattle.resolving.specs.Symbols.{Definition, definition, defines, lets, sameKey}
 use Rattle.read_forms.specs.declared.Name.{Name}
 use Rattle.read_forms.specs.declared.Items.{Items}

@@ -14,7 +14,7 @@ use lib.ListN.{length, take, drop, set, getD, length-set, length-append, drop-of
 use lib.Seq.{take-all, take-append-le, drop-append-le, take-suc-set, getD-take, drop-cons}
 use Rattle.tokens.specs.declared.Cursor.{Cursor}
 use Rattle.tokens.specs.Spelling.{spellAll}
-use Rattle.token_laws.proofs.Tests.{all-at}
+use Rattle.text.proofs.Passing.{all-at}
 use Rattle.reading.specs.Statement.{Statement}
 use Rattle.reading.specs.Answer.{Answer, accepted, refused}
 use Rattle.reading.specs.Read.{between, prepend, readText}

@@ -8,7 +8,7 @@ use mathlib.Core.Option.{Option, some}
 use Rattle.reading.specs.Statement.{Statement}
 use Rattle.reading.specs.Answer.{Answer, accepted, refused, _>>=_}
 use Rattle.reading.specs.Read.{readText}
-use Rattle.resolving.specs.Lists.{again}
+use Rattle.text.specs.Lists.{again}
 use Rattle.resolving.specs.Faults.{secondLet, wrongContext}
 use Rattle.resolving.specs.Symbols.{Meaning, lets, sameKey, lookUp}
 use Rattle.resolving.specs.Brought.{Brought, bring, eachFrom}

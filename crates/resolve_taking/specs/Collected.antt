@@ -4,7 +4,7 @@ use mathlib.Core.List.{List, [], _∷_}
 use mathlib.Core.Option.{Option, some, none}
 use mathlib.Core.Path.{_≡_}
 use Rattle.reading.specs.Statement.{Statement}
-use Rattle.resolving.specs.Lists.{again}
+use Rattle.text.specs.Lists.{again}
 use Rattle.resolving.specs.Symbols.{Definition, lets, sameKey}
 use Rattle.resolve_symbols.specs.Lets.{definitionsIn, LetsFit}
 

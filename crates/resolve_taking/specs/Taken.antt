@@ -9,8 +9,8 @@ use Rattle.reading.specs.Statement.{Statement}
 use Rattle.reading.specs.Answer.{accepted, refused}
 use Rattle.reading.specs.Read.{readText}
 use Rattle.print_writing.specs.Written.{Written}
-use Rattle.print_render.specs.Text.{restOf}
-use Rattle.resolving.specs.Lists.{gather}
+use Rattle.canonical.specs.Lines.{restOf}
+use Rattle.text.specs.Lists.{gather}
 use Rattle.resolving.specs.Brought.{bring, eachFrom}
 use Rattle.resolving.specs.Ground.{staying}
 use Rattle.resolving.specs.Handed.{isHanded, handedContext, resolveHanded}

@@ -7,7 +7,7 @@ use mathlib.Core.List.{List, [], _∷_, _++_}
 use native.Mathlib.Numerals.{add-one}
 use lib.ListN.{length, getD, drop}
 use lib.Seq.{drop-cons, drop-length}
-use Rattle.resolving.specs.Lists.{any, gather}
+use Rattle.text.specs.Lists.{any, gather}
 
 module _ (xs : List ℕ) (i : ℕ) (h : i < length xs) where
   -- the first of those that are left

@@ -4,7 +4,7 @@ use mathlib.Core.Bool.{Bool}
 use mathlib.Core.List.{List, map}
 use mathlib.Core.Option.{Option, some, none}
 use Rattle.reading.specs.Statement.{Modes, Operator}
-use Rattle.resolving.specs.Lists.{gather}
+use Rattle.text.specs.Lists.{gather}
 use Rattle.resolving.specs.Context.{Context, CovariateKind, continuous, categorical, kindAt}
 use Rattle.resolving.specs.Effects.{formsOf, operatorNumber, optionalNumber}
 use Rattle.resolve_terms.specs.declared.SomeKind.{SomeKind}

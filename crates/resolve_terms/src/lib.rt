@@ -6,7 +6,7 @@ ghost use Prim.Native.Nat.{_+_, _*_, _≤_, _<_};
 ghost use lib.ListN.{length, take};
 ghost use Rattle.read_packs.specs.Packs.{places};
 ghost use Rattle.read_forms.specs.Forms.{modesIn};
-ghost use Rattle.resolving.specs.Lists.{any};
+ghost use Rattle.text.specs.Lists.{any};
 ghost use Rattle.resolving.specs.Effects.{everyForm, formsOf, isCat, suits as suits·spec};
 ghost use Rattle.print_writing.specs.Written.{Room, Written};
 ghost use Rattle.resolving.specs.Context.{kindAt};

@@ -24,7 +24,7 @@ use Rattle.reading.specs.Read.{readFrom, readText}
 use Rattle.reading.specs.Parts.{featureParts, partsOf}
 use Rattle.canonical.specs.Canonical.{statementShapes, textShapes}
 use Rattle.canonical.proofs.Examples as printing
-use Rattle.resolving.specs.Lists.{any, all}
+use Rattle.text.specs.Lists.{any, all}
 use Rattle.resolving.specs.Builtins.{builtin}
 use Rattle.resolving.specs.Symbols.{lookUp}
 use Rattle.resolving.specs.Effects.{Effect}

@@ -16,7 +16,7 @@ use Rattle.labels.specs.declared.Family.the-variants.{VariabilityLevel}
 use Rattle.labels.proofs.Words.{same-sym, same-trans}
 use Rattle.reading.specs.Statement.{Name, Modes, Operand, symbol, names, Operator, Covariate, Covariance, feature}
 use Rattle.reading.specs.Answer.{Answer, accepted, refused, _>>=_}
-use Rattle.resolving.specs.Lists.{any, isNil}
+use Rattle.text.specs.Lists.{any, isNil}
 use Rattle.resolving.specs.Context.{Context}
 use Rattle.resolving.specs.Builtins.{builtin}
 use Rattle.resolving.specs.Symbols.{Definition, Meaning, letting, meaningAfter, lookUp}

@@ -48,8 +48,8 @@ use Rattle.reading.specs.Statement.{
   Let,
   feature,
 }
-use Rattle.reading.specs.Answer.{Answer, accepted, refused, _>>=_}
-use Rattle.resolving.specs.Lists.{any, isNil}
+use Rattle.reading.specs.Answer.{Answer, accepted, refused, refusedIf, _>>=_}
+use Rattle.text.specs.Lists.{any, isNil}
 use Rattle.resolving.specs.Faults.{wrongKind}
 use Rattle.resolving.specs.Context.{Context, covariates}
 use Rattle.resolving.specs.Symbols.{Meaning}
@@ -97,7 +97,7 @@ bringFeature c look (Covariate m ps cs es op) = do
   vs ← covariatesOf c look cs
   cond (isNil is || isNil vs)
       (accepted dropped)
-      (cond (any (against c es) vs) (refused wrongKind 0) (accepted (brings (isExplicit ps) (effectsOf c m es op is vs))))
+      (refusedIf (any (against c es) vs) wrongKind 0 (accepted (brings (isExplicit ps) (effectsOf c m es op is vs))))
 bringFeature c look (Allometry n r) = do
   i ← entryOf (covariates c) (n .spelling)
   accepted (stays (Allometry (plainName (n .spelling)) (Option·map (λ x. plainName (x .spelling)) r)))

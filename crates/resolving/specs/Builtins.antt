@@ -7,7 +7,7 @@ use mathlib.Core.Option.{Option, some, none, Option·map}
 use lib.Dec.{eqb}
 use Rattle.text.specs.Bytes.{bytes}
 use Rattle.labels.specs.Word.{sameWord}
-use Rattle.resolving.specs.Lists.{any, keep, gather, sameBytes}
+use Rattle.text.specs.Lists.{any, keep, gather, sameBytes}
 use Rattle.resolving.specs.Context.{Context, Binding, Declared, CovariateKind, continuous, categorical, kindNumber}
 
 -- Of the template.

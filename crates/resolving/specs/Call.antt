@@ -5,9 +5,10 @@
 use Prim.Native.Nat.{ℕ}
 use mathlib.Core.Bool.{Bool, cond, _||_}
 use mathlib.Core.List.{List, [], _∷_, _++_, map}
+use mathlib.Core.Path.{_≡_}
 use lib.Dec.{ltb}
 use lib.ListN.{length, drop, replicate}
-use Rattle.reading.specs.Answer.{Answer, accepted, refused}
+use Rattle.reading.specs.Answer.{Answer, accepted, refused, refusedIf}
 use Rattle.resolving.specs.Faults.{tooShort}
 use Rattle.resolving.specs.Effects.{Effect}
 use Rattle.resolving.specs.Resolve.{Note, Resolved, groundText}
@@ -38,13 +39,13 @@ abbrev pub exceeds : Lengths → Lengths → Bool
 exceeds lent own = ltb (lent .ground) (own .ground) || (ltb (lent .effects) (own .effects) || ltb (lent .notes) (own .notes))
 
 abbrev pub roomFor : Lengths → Answer Resolved → Answer Resolved
-roomFor lent (accepted r) = cond (exceeds lent (lengthsIn r)) (refused tooShort 0) (accepted r)
+roomFor lent (accepted r) = refusedIf (exceeds lent (lengthsIn r)) tooShort 0 (accepted r)
 roomFor lent (refused n p) = refused n p
 
 -- The call's answer for outputs and a working buffer of these lengths.
 unfoldable pub resolveCall : ℕ → List ℕ → List ℕ → List ℕ → Lengths → ℕ → Answer Resolved
 resolveCall limit block numbers text lent work =
-    cond (ltb work workingLength) (refused tooShort 0) (roomFor lent (resolveHanded limit block numbers text))
+    refusedIf (ltb work workingLength) tooShort 0 (roomFor lent (resolveHanded limit block numbers text))
 
 abbrev pub lengthsOf : Answer Resolved → Answer Lengths
 lengthsOf (accepted r) = accepted (lengthsIn r)
@@ -58,3 +59,15 @@ outputOf part (refused n p) before = before
 -- The working buffer afterwards.
 abbrev pub workAfter : List ℕ → List ℕ
 workAfter before = cond (ltb (length before) workingLength) before (replicate (length before) 0)
+
+-- All that the call says and leaves, for an answer: what it tells of it, the three outputs, whatever form its effects have there, and the working
+-- buffer.
+abbrev pub Leaves :
+    {W E : Type 0} → Answer Resolved → (Answer Lengths → W) → W → (Effect → E)
+    → List ℕ → List ℕ → List E → List E → List (List ℕ) → List (List ℕ) → List ℕ → List ℕ → Type 0
+Leaves a tell r form ground ground' effects effects' notes notes' work work' =
+    (r ≡ tell (lengthsOf a))
+    × ((ground' ≡ outputOf groundText a ground)
+    × ((effects' ≡ outputOf (λ x. map form (x .effects)) a effects)
+    × ((notes' ≡ outputOf (λ x. map noteNumbers (x .notes)) a notes)
+    × (work' ≡ workAfter work))))

@@ -6,7 +6,7 @@ use mathlib.Core.List.{List, [], _∷_, map}
 use mathlib.Core.Option.{Option, some, none}
 use lib.Dec.{eqb}
 use Rattle.reading.specs.Statement.{Modes, allModes, modes, Operator, multiply, add}
-use Rattle.resolving.specs.Lists.{any, gather}
+use Rattle.text.specs.Lists.{any, gather}
 use Rattle.resolving.specs.Context.{Context, CovariateKind, continuous, categorical, kindAt}
 
 pub record Effect : Type 0 where

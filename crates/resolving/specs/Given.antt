@@ -10,7 +10,7 @@ use Rattle.text.specs.Bytes.{every}
 use Rattle.tokens.specs.Spelling.{isName}
 use Rattle.reading.specs.Answer.{Answer, refused, _>>=_}
 use Rattle.reading.specs.Read.{readText}
-use Rattle.resolving.specs.Lists.{all, gather, isNil}
+use Rattle.text.specs.Lists.{all, gather, isNil}
 use Rattle.resolving.specs.Faults.{wrongContext}
 use Rattle.resolving.specs.Context.{Binding, CovariateKind, continuous, categorical, Declared, Context}
 use Rattle.resolving.specs.Resolve.{Resolved, resolve}

@@ -5,7 +5,7 @@ use mathlib.Core.Bool.{Bool, cond, not, _&&_}
 use mathlib.Core.List.{List, [], _∷_, _++_, map}
 use lib.Dec.{eqb}
 use Rattle.reading.specs.Statement.{modes, Operator, multiply, add, Covariate, Statement, feature}
-use Rattle.resolving.specs.Lists.{keep, firsts, gather}
+use Rattle.text.specs.Lists.{keep, firsts, gather}
 use Rattle.resolving.specs.Context.{Context, covariates}
 use Rattle.resolving.specs.Effects.{Effect}
 use Rattle.resolving.specs.Brought.{Brought, defining, dropped, stays, brings, listed}

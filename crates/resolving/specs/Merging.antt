@@ -5,7 +5,7 @@ use mathlib.Core.Bool.{Bool, true, false, not, _&&_}
 use mathlib.Core.List.{List, []}
 use mathlib.Core.Option.{Option}
 use lib.Dec.{eqb}
-use Rattle.resolving.specs.Lists.{any, keep, firsts, again, gather}
+use Rattle.text.specs.Lists.{any, keep, firsts, again, gather}
 use Rattle.resolving.specs.Effects.{Effect}
 use Rattle.resolving.specs.Brought.{Brought, defining, dropped, stays, brings}
 

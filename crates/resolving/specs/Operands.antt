@@ -7,7 +7,7 @@ use mathlib.Core.Option.{Option, some, none}
 use lib.Dec.{eqb}
 use Rattle.reading.specs.Statement.{Operand, everyone, symbol, names}
 use Rattle.reading.specs.Answer.{Answer, accepted, refused, _>>=_}
-use Rattle.resolving.specs.Lists.{firsts, placeIn, sameBytes}
+use Rattle.text.specs.Lists.{firsts, placeIn, sameBytes}
 use Rattle.resolving.specs.Faults.{unknownSymbol, unknownName}
 use Rattle.resolving.specs.Context.{Context, covariates}
 use Rattle.resolving.specs.Symbols.{Meaning}

@@ -8,9 +8,9 @@ use mathlib.Core.Option.{Option, some, none}
 use lib.Dec.{eqb, ltb}
 use lib.ListN.{length}
 use Rattle.reading.specs.Statement.{Statement}
-use Rattle.reading.specs.Answer.{Answer, accepted, refused, _>>=_}
+use Rattle.reading.specs.Answer.{Answer, accepted, refused, refusedIf, _>>=_}
 use Rattle.canonical.specs.Canonical.{canonical}
-use Rattle.resolving.specs.Lists.{any, again, gather}
+use Rattle.text.specs.Lists.{any, again, gather}
 use Rattle.resolving.specs.Faults.{secondLet, forcedTwice, tooLarge}
 use Rattle.resolving.specs.Context.{Context}
 use Rattle.resolving.specs.Symbols.{Meaning, Definition, lets, sameKey, lookUp}
@@ -51,7 +51,7 @@ module _ {A : Type 0} where
 
   -- 18: more than a limit
   abbrev pub upTo : ℕ → ℕ → Answer A → Answer A
-  upTo limit n a = cond (ltb limit n) (refused tooLarge 0) a
+  upTo limit n a = refusedIf (ltb limit n) tooLarge 0 a
 
 -- 4 and 5, of what the statements bring.
 abbrev pub outcome : Context → List Brought → Resolved

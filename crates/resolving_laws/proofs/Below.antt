@@ -10,7 +10,7 @@ use Rattle.resolving.specs.Context.{Context, covariates}
 use Rattle.resolving.specs.Symbols.{lets, lookUp}
 use Rattle.resolving.specs.Effects.{Effect}
 use Rattle.resolving.specs.Resolve.{Resolved, resolve}
-use Rattle.resolving_laws.proofs.All.{All, all-weaker}
+use Rattle.text.proofs.All.{All, all-weaker}
 use Rattle.resolving_laws.proofs.Fewness.{place-below}
 use Rattle.resolving_laws.proofs.Passed.{gives-accepted}
 use Rattle.resolving_laws.proofs.Stands.{Written}

@@ -4,13 +4,13 @@ use mathlib.Core.Path.{_≡_, refl}
 use mathlib.Core.Bool.{true, false}
 use mathlib.Core.List.{List, [], _∷_, _++_, map}
 use Rattle.reading.specs.Answer.{Answer, accepted, _>>=_}
-use Rattle.resolving.specs.Lists.{gather}
+use Rattle.text.specs.Lists.{gather}
 use Rattle.resolving.specs.Context.{Context}
 use Rattle.resolving.specs.Symbols.{Meaning}
 use Rattle.resolving.specs.Effects.{Effect}
 use Rattle.resolving.specs.Brought.{Brought, defining, dropped, stays, brings, bring, eachFrom}
 use Rattle.resolving.specs.Ground.{Group, sameGroup, groupOf, groups, formsIn, groundCovariate, staying, ground}
-use Rattle.resolving_laws.proofs.All.{All, finished, also, all-weaker, all-of, all-append, all-firsts, all-map}
+use Rattle.text.proofs.All.{All, finished, also, all-weaker, all-of, all-append, all-firsts, all-map}
 use Rattle.resolving_laws.proofs.Passed.{Each, none-asked, answered, each-answered}
 use Rattle.resolving_laws.proofs.SymbolLaws.{isLet}
 use Rattle.resolving_laws.proofs.Stands.{Written, Suited, Stands, stands-dropped, stands-effects, stands-itself, stands-defining}

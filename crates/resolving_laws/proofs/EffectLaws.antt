@@ -5,13 +5,12 @@ use mathlib.Core.Path.{_≡_, refl, sym, ap₂}
 use mathlib.Core.Bool.{Bool, true, false, _&&_}
 use lib.Dec.{eqb}
 use borrow.Author.Tests.{eqb-true, eq-eqb}
-use Rattle.reading_laws.proofs.Tests.{both}
-use Rattle.text.proofs.Tests.{halves}
+use Rattle.text.proofs.Tests.{halves, both}
 use Rattle.reading.specs.Statement.{Operator, add, multiply}
 use Rattle.resolving.specs.Effects.{Effect, optionalNumber, operatorNumber}
 use Rattle.resolving.specs.Merging.{samePair, sameForm, sameEffect, isMandatory, forcesWith}
 use Rattle.resolving.specs.Ground.{Group, sameGroup, isOptional, operatorAs}
-use Rattle.resolving_laws.proofs.Bools.{and-sym, equally}
+use Rattle.text.proofs.Bools.{and-sym, equally}
 
 pub eqb-sym : (m n : ℕ) → eqb m n ≡ eqb n m
 eqb-sym m n = equally (eqb m n) (eqb n m) (λ e. eq-eqb n m (sym (eqb-true m n e))) (λ e. eq-eqb m n (sym (eqb-true n m e)))

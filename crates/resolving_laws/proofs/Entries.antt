@@ -9,20 +9,19 @@ use lib.Dec.{eqb}
 use lib.ListN.{getD}
 use borrow.Author.Tests.{eqb-true, eq-eqb}
 use Rattle.text.proofs.Tests.{halves}
-use Rattle.labels.specs.Word.{oneLater}
+use Rattle.text.specs.Lists.{oneLater, firsts, placeIn, sameBytes}
 use Rattle.reading.specs.Statement.{Name, Operand, everyone, symbol, names}
 use Rattle.reading.specs.Answer.{Answer, accepted, refused, _>>=_}
 use Rattle.reading_laws.specs.WellFormed.{Gives, given, nothing}
 use Rattle.reading_laws.proofs.Giving.{gives-bind}
 use Rattle.reading_laws.proofs.Faults.{Anything}
-use Rattle.resolving.specs.Lists.{firsts, placeIn, sameBytes}
 use Rattle.resolving.specs.Context.{Context, covariates}
 use Rattle.resolving.specs.Symbols.{Meaning}
 use Rattle.resolving.specs.Operands.{known, namesOf, entered, entryOf, entriesOf, held, parametersOf, covariatesOf}
 use Rattle.resolving.specs.Brought.{plainName}
-use Rattle.resolving_laws.proofs.Bools.{none≢some}
-use Rattle.resolving_laws.proofs.All.{All, finished, also, all-firsts}
-use Rattle.resolving_laws.proofs.Once.{firsts-once, once-firsts}
+use Rattle.text.proofs.Bools.{none≢some}
+use Rattle.text.proofs.All.{All, finished, also, all-firsts}
+use Rattle.text.proofs.Once.{firsts-once, once-firsts}
 
 -- the index of its name's first entry
 abbrev pub FirstAt : List (List ℕ) → ℕ → Type 0

@@ -12,7 +12,7 @@ use Rattle.reading.specs.Answer.{Answer, accepted, refused}
 use Rattle.reading_laws.specs.WellFormed.{isFault, Gives, given, nothing}
 use Rattle.reading_laws.proofs.Giving.{gives-bind, fault-given}
 use Rattle.reading_laws.proofs.Faults.{Anything, either-gives, text-gives}
-use Rattle.resolving.specs.Lists.{again, gather}
+use Rattle.text.specs.Lists.{again, gather}
 use Rattle.resolving.specs.Context.{Context}
 use Rattle.resolving.specs.Symbols.{lets, sameKey, lookUp}
 use Rattle.resolving.specs.Brought.{Brought}

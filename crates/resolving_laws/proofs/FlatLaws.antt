@@ -7,15 +7,14 @@ use mathlib.Core.Bool.{Bool, true, false, cond, not, _&&_, _||_}
 use mathlib.Core.List.{List, [], _∷_, _++_, map}
 use mathlib.Core.Option.{Option, some, none}
 use borrow.Author.Tests.{lt-ltb, le-ltb}
-use Rattle.labels.specs.Word.{oneLater}
-use Rattle.resolving.specs.Lists.{any, keep, gather, againAfter}
+use Rattle.text.specs.Lists.{oneLater, any, keep, gather, againAfter}
 use Rattle.resolving.specs.Effects.{Effect}
 use Rattle.resolving.specs.Brought.{Brought, defining, dropped, stays, brings}
 use Rattle.resolving.specs.Merging.{samePair, remains, overridden, remaining, forcesWith, bothForce, forcedAgain}
 use Rattle.resolving_laws.specs.Flat.{Term, term, termsFrom, overriddenAmong, forcedBefore, forcedAfter}
-use Rattle.resolving_laws.proofs.All.{All, finished, also, all-weaker, all-append}
-use Rattle.resolving_laws.proofs.Appended.{any-append, keep-append, map-append}
-use Rattle.resolving_laws.proofs.Clashing.{any-any}
+use Rattle.text.proofs.All.{All, finished, also, all-weaker, all-append}
+use Rattle.text.proofs.Appended.{any-append, keep-append, map-append}
+use Rattle.text.proofs.Clashing.{any-any}
 
 -- an explicit effect on the pair
 abbrev wins : Effect → Term → Bool

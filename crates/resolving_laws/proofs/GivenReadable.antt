@@ -9,8 +9,8 @@ use lib.ListN.{length, length-map}
 use borrow.Author.Tests.{leb-true}
 use Rattle.text.proofs.Tests.{halves}
 use Rattle.tokens.specs.Spelling.{isName}
-use Rattle.token_laws.specs.Shaped.{all}
-use Rattle.reading_laws.proofs.Tests.{Passing, all-passing}
+use Rattle.text.specs.Lists.{all}
+use Rattle.text.proofs.Passing.{Passing, all-passing}
 use Rattle.resolving.specs.Context.{Declared, covariatesOr}
 use Rattle.resolving.specs.Given.{
   Pair,

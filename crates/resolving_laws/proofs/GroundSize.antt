@@ -19,16 +19,7 @@ use Rattle.resolving.specs.Context.{Context}
 use Rattle.resolving.specs.Effects.{Effect}
 use Rattle.resolving.specs.Brought.{Brought}
 use Rattle.resolving.specs.Ground.{Group, sameGroup, groupOf, groups, formsIn, isOptional, groundCovariate, groundEffects, staying, ground}
-use Rattle.resolving_laws.proofs.Permuted.{
-  Permuted,
-  keep-permuted,
-  firsts-permuted,
-  map-permuted,
-  gather-permuted,
-  length-permuted,
-  total,
-  total-permuted,
-}
+use Rattle.text.proofs.Permuted.{Permuted, keep-permuted, firsts-permuted, map-permuted, gather-permuted, length-permuted, total, total-permuted}
 use Rattle.resolving_laws.proofs.EffectLaws.{group-equal, group-sym}
 
 -- A list of labels.

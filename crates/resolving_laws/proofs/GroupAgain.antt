@@ -11,7 +11,7 @@ use Rattle.resolving.specs.Symbols.{Meaning}
 use Rattle.resolving.specs.Effects.{Effect, suits, operatorNumber, optionalNumber, against}
 use Rattle.resolving.specs.Brought.{brings, bring}
 use Rattle.resolving.specs.Ground.{Group, sameGroup, groupOf, formsIn, operatorAs, isOptional, groundCovariate}
-use Rattle.resolving_laws.proofs.All.{All, finished, also, all-weaker, all-keep, all-map, all-none}
+use Rattle.text.proofs.All.{All, finished, also, all-weaker, all-keep, all-map, all-none}
 use Rattle.resolving_laws.proofs.EffectLaws.{group-equal}
 use Rattle.resolving_laws.proofs.Entries.{held-again}
 use Rattle.resolving_laws.proofs.Stands.{Written, Suited}

@@ -1,13 +1,4 @@
 -- Lists and answers.
-pub mod Bools
-pub mod Permuted
-pub mod All
-pub mod Appended
-pub mod Clashing
-pub mod Once
-pub mod Often
-pub mod Runs
-pub mod Grouping
 pub mod Fewness
 pub mod Answering
 pub mod Passed

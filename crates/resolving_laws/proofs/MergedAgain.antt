@@ -5,13 +5,13 @@ use mathlib.Core.Path.{_≡_, refl, _∙_, ap, ap₂, fun-ext}
 use mathlib.Core.Bool.{true}
 use mathlib.Core.List.{List, [], _∷_, _++_, map, append-nil}
 use Rattle.reading.specs.Statement.{Feature, Statement, feature}
-use Rattle.resolving.specs.Lists.{gather}
+use Rattle.text.specs.Lists.{gather}
 use Rattle.resolving.specs.Effects.{Effect}
 use Rattle.resolving.specs.Brought.{Brought, defining, dropped, stays, brings}
 use Rattle.resolving.specs.Merging.{remains, overridden, remaining}
 use Rattle.resolving.specs.Ground.{Group, groups, staying}
 use Rattle.resolving.specs.Resolve.{droppedFrom}
-use Rattle.resolving_laws.proofs.Appended.{gather-append, gather-map, gather-nothing}
+use Rattle.text.proofs.Appended.{gather-append, gather-map, gather-nothing}
 use Rattle.resolving_laws.proofs.Regrouped.{block, inGroups}
 use Rattle.resolving_laws.proofs.BroughtAgain.{broughtAgain, stayed}
 

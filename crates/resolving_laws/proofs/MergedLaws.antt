@@ -8,12 +8,12 @@ use mathlib.Core.Bool.{Bool, true, false, cond, not, _&&_}
 use mathlib.Core.List.{List, [], _∷_}
 use lib.ListN.{length, length-append}
 use borrow.Author.Tests.{not-true}
-use Rattle.resolving.specs.Lists.{any, keep, firsts, gather}
+use Rattle.text.specs.Lists.{any, keep, firsts, gather}
 use Rattle.resolving.specs.Context.{Context}
 use Rattle.resolving.specs.Effects.{Effect}
 use Rattle.resolving.specs.Brought.{Brought, defining, dropped, stays, brings}
 use Rattle.resolving.specs.Merging.{sameForm, sameEffect, isMandatory, effectsIn, remains, overridden, remaining, forcesWith, bothForce, alsoMandatory, merge}
-use Rattle.resolving_laws.proofs.All.{
+use Rattle.text.proofs.All.{
   All,
   finished,
   also,
@@ -28,8 +28,8 @@ use Rattle.resolving_laws.proofs.All.{
   none-all,
   all-none,
 }
-use Rattle.resolving_laws.proofs.Clashing.{clashes}
-use Rattle.resolving_laws.proofs.Once.{firsts-once}
+use Rattle.text.proofs.Clashing.{clashes}
+use Rattle.text.proofs.Once.{firsts-once}
 use Rattle.resolving_laws.proofs.EffectLaws.{forces-sym}
 use Rattle.resolving.specs.Ground.{groupOf}
 use Rattle.resolving_laws.proofs.Stands.{Written, Suited, Stands, stands-effects}

@@ -3,8 +3,7 @@
 use mathlib.Core.Path.{_≡_, _∙_, ap, subst, fun-ext}
 use mathlib.Core.Bool.{Bool, not, _&&_}
 use mathlib.Core.List.{List}
-use Rattle.labels.specs.Word.{absent}
-use Rattle.resolving.specs.Lists.{any, keep, gather, again}
+use Rattle.text.specs.Lists.{any, keep, gather, again, absent}
 use Rattle.resolving.specs.Effects.{Effect}
 use Rattle.resolving.specs.Brought.{Brought}
 use Rattle.resolving.specs.Merging.{
@@ -22,8 +21,8 @@ use Rattle.resolving.specs.Merging.{
   merge,
   merged,
 }
-use Rattle.resolving_laws.proofs.Permuted.{Permuted, any-permuted, keep-permuted, firsts-permuted, gather-permuted}
-use Rattle.resolving_laws.proofs.Clashing.{again-permuted, any-any}
+use Rattle.text.proofs.Permuted.{Permuted, any-permuted, keep-permuted, firsts-permuted, gather-permuted}
+use Rattle.text.proofs.Clashing.{again-permuted, any-any}
 use Rattle.resolving_laws.proofs.EffectLaws.{effect-equal, effect-sym, forces-sym}
 
 -- Merging effects.

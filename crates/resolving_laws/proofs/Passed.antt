@@ -9,39 +9,26 @@ use mathlib.Core.List.{List, [], _∷_}
 use lib.Dec.{ltb}
 use borrow.Author.Tests.{ltb-false}
 use Rattle.reading.specs.Answer.{Answer, accepted, refused, _>>=_}
+use Rattle.reading.proofs.Answers.{not-refused, passed-test, bind-passed}
 use Rattle.reading_laws.specs.WellFormed.{Gives, given, nothing}
 use Rattle.reading_laws.proofs.Giving.{gives-bind}
 use Rattle.resolving.specs.Brought.{atIndex, eachFrom}
 use Rattle.resolving.specs.Resolve.{atMostOnce, upTo}
-use Rattle.resolving_laws.proofs.All.{All, also, finished}
-
-pub refused≢accepted : {A : Type 0} {n p : ℕ} {r : A} → refused n p ≡ accepted r → ⊥
-refused≢accepted e = let z : _≡_ {A = ℕ} 0 1 = cc in absurd (omega arith)
+use Rattle.text.proofs.All.{All, also, finished}
 
 module _ {A : Type 0} {r : A} where
   pub once-passed : (n : ℕ) (o : Option ℕ) (a : Answer A) → atMostOnce n o a ≡ accepted r → (o ≡ none) × (a ≡ accepted r)
   once-passed n none a e = (refl, e)
-  once-passed n (some i) a e = absurd (refused≢accepted e)
+  once-passed n (some i) a e = absurd (not-refused e)
 
   pub up-to-passed : (limit n : ℕ) (a : Answer A) → upTo limit n a ≡ accepted r → (n ≤ limit) × (a ≡ accepted r)
-  up-to-passed limit n a e = by-cases (ltb limit n) refl e
-    where
-      by-cases : (t : Bool) → ltb limit n ≡ t → cond t (refused 18 0) a ≡ accepted r → (n ≤ limit) × (a ≡ accepted r)
-      by-cases true h e = absurd (refused≢accepted e)
-      by-cases false h e = (ltb-false limit n h, e)
-
-pub record Bound {A B : Type 0} (a : Answer A) (f : A → Answer B) (r : B) : Type 0 where
-  pub value : A
-  pub is : a ≡ accepted value
-  pub next : f value ≡ accepted r
-
-pub bind-passed : {A B : Type 0} {r : B} (a : Answer A) (f : A → Answer B) → a >>= f ≡ accepted r → Bound a f r
-bind-passed (accepted x) f e = record { value = x; is = refl; next = e }
-bind-passed (refused n p) f e = absurd (refused≢accepted e)
+  up-to-passed limit n a e =
+      let h = passed-test (ltb limit n) 18 0 a e in
+      (ltb-false limit n (h .0), h .1)
 
 pub gives-accepted : {A : Type 0} {P : A → Type 0} {a : Answer A} {x : A} → Gives P a → a ≡ accepted x → P x
 gives-accepted {P} {x} (given {a} h) e = let z : a ≡ x = cc in subst P z h
-gives-accepted (nothing f) e = absurd (refused≢accepted e)
+gives-accepted (nothing f) e = absurd (not-refused e)
 
 -- What holds of each answer holds of all.
 pub each-gives :
@@ -68,7 +55,7 @@ each-answered {B = B} (answered h r) i =
 
 at-index-passed : {B : Type 0} (i : ℕ) (a : Answer B) {y : B} → atIndex i a ≡ accepted y → a ≡ accepted y
 at-index-passed i (accepted x) e = e
-at-index-passed i (refused n p) e = absurd (refused≢accepted e)
+at-index-passed i (refused n p) e = absurd (not-refused e)
 
 pub answered-each : {A B : Type 0} (f : A → Answer B) (i : ℕ) (l : List A) (m : List B) → eachFrom f i l ≡ accepted m → Each f l m
 answered-each f i [] m e = let z : [] ≡ m = cc in subst (Each f []) z none-asked

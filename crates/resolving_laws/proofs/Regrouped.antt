@@ -3,16 +3,16 @@
 use mathlib.Core.Path.{_≡_, sym, _∙_, ap}
 use mathlib.Core.Bool.{Bool, false, not}
 use mathlib.Core.List.{List, map}
-use Rattle.resolving.specs.Lists.{keep, firsts}
+use Rattle.text.specs.Lists.{keep, firsts}
 use Rattle.resolving.specs.Context.{Context}
 use Rattle.resolving.specs.Effects.{Effect}
 use Rattle.resolving.specs.Merging.{sameEffect, alsoMandatory, merge}
 use Rattle.resolving.specs.Ground.{Group, sameGroup, groupOf, groups, formsIn, groundCovariate, groundEffects}
-use Rattle.resolving_laws.proofs.Permuted.{Permuted, permuted-back}
-use Rattle.resolving_laws.proofs.All.{All, all-weaker, all-permuted, keep-all, map-each, all-members}
-use Rattle.resolving_laws.proofs.Clashing.{clashes, clashes-permuted}
-use Rattle.resolving_laws.proofs.Once.{once-firsts}
-use Rattle.resolving_laws.proofs.Grouping.{regroup, regrouped, same-keys, same-block}
+use Rattle.text.proofs.Permuted.{Permuted, permuted-back}
+use Rattle.text.proofs.All.{All, all-weaker, all-permuted, keep-all, map-each, all-members}
+use Rattle.text.proofs.Clashing.{clashes, clashes-permuted}
+use Rattle.text.proofs.Once.{once-firsts}
+use Rattle.text.proofs.Grouping.{regroup, regrouped, same-keys, same-block}
 use Rattle.resolving_laws.proofs.EffectLaws.{group-equal, group-self, effect-sym}
 use Rattle.resolving_laws.proofs.MergingLaws.{yields-permuted}
 

@@ -10,7 +10,7 @@ use Rattle.resolving.specs.Merging.{effectsIn, forcedAgain}
 use Rattle.resolving.specs.Resolve.{Resolved, mergeAndGround, resolve}
 use Rattle.resolving_laws.specs.Alike.{Alike, both}
 use Rattle.resolving_laws.specs.Claims.{SameLength}
-use Rattle.resolving_laws.proofs.Permuted.{Permuted, length-permuted, map-permuted, gather-permuted}
+use Rattle.text.proofs.Permuted.{Permuted, length-permuted, map-permuted, gather-permuted}
 use Rattle.resolving_laws.proofs.Answering.{bind-alike, up-to-alike, once-alike, each-permuted}
 use Rattle.resolving_laws.proofs.SymbolLaws.{with-symbols-alike}
 use Rattle.resolving_laws.proofs.MergingLaws.{merged-permuted, forced-permuted}

@@ -10,7 +10,7 @@ use lib.ListN.{length, getD}
 use borrow.Author.Tests.{eqb-true, ltb-true}
 use Rattle.text.proofs.Tests.{refuted}
 use Rattle.tokens.specs.Spelling.{isName}
-use Rattle.token_laws.specs.Shaped.{all}
+use Rattle.text.specs.Lists.{all, any, isNil}
 use Rattle.labels.specs.Label.{labelsOf}
 use Rattle.labels.specs.declared.Family.the-variants.{CovariateEffect}
 use Rattle.reading.specs.Statement.{Statement}
@@ -25,7 +25,6 @@ use Rattle.canonical.specs.Print.{printed, printText}
 use Rattle.canonical_laws.specs.Forgotten.{forget, ReadAs}
 use Rattle.canonical_laws.proofs.Forgetting.{canonical-forgets}
 use Rattle.canonical_laws.proofs.Rereading.{rereads}
-use Rattle.resolving.specs.Lists.{any, isNil}
 use Rattle.resolving.specs.Context.{Context, covariates}
 use Rattle.resolving.specs.Symbols.{lets, lookUp}
 use Rattle.resolving.specs.Effects.{Effect}
@@ -33,8 +32,8 @@ use Rattle.resolving.specs.Brought.{Brought, defining, dropped, stays, brings}
 use Rattle.resolving.specs.Merging.{sameEffect, remains, overridden, remaining, merged}
 use Rattle.resolving.specs.Ground.{Group, sameGroup, groupOf, groups, formsIn, groundCovariate, staying, ground}
 use Rattle.resolving.specs.Resolve.{Resolved, groundText, resolve, additive}
-use Rattle.resolving_laws.proofs.Permuted.{Permuted}
-use Rattle.resolving_laws.proofs.All.{
+use Rattle.text.proofs.Permuted.{Permuted}
+use Rattle.text.proofs.All.{
   All,
   finished,
   also,
@@ -50,10 +49,10 @@ use Rattle.resolving_laws.proofs.All.{
   all-none,
   all-members,
 }
-use Rattle.resolving_laws.proofs.Clashing.{clashes}
-use Rattle.resolving_laws.proofs.Once.{clashes-keep}
-use Rattle.resolving_laws.proofs.Runs.{any-firsts}
-use Rattle.resolving_laws.proofs.Grouping.{some-block}
+use Rattle.text.proofs.Clashing.{clashes}
+use Rattle.text.proofs.Once.{clashes-keep}
+use Rattle.text.proofs.Runs.{any-firsts}
+use Rattle.text.proofs.Grouping.{some-block}
 use Rattle.resolving_laws.proofs.Fewness.{at-most, none-twice}
 use Rattle.resolving_laws.proofs.Passed.{gives-accepted}
 use Rattle.resolving_laws.proofs.EffectLaws.{group-equal, group-self, effect-self}

@@ -10,7 +10,7 @@ use lib.ListN.{length}
 use Rattle.reading.specs.Statement.{Statement}
 use Rattle.reading.specs.Answer.{accepted}
 use Rattle.canonical.specs.Canonical.{canonical}
-use Rattle.resolving.specs.Lists.{gather}
+use Rattle.text.specs.Lists.{gather}
 use Rattle.resolving.specs.Context.{Context}
 use Rattle.resolving.specs.Symbols.{lets, lookUp}
 use Rattle.resolving.specs.Effects.{Effect}
@@ -18,9 +18,9 @@ use Rattle.resolving.specs.Brought.{Brought}
 use Rattle.resolving.specs.Merging.{sameEffect, effectsIn, overridden, remaining, bothForce, forcedAgain, alsoMandatory, merge, merged}
 use Rattle.resolving.specs.Ground.{groupOf, groundEffects, ground}
 use Rattle.resolving.specs.Resolve.{Resolved, Note, additive, resolve, outcome}
-use Rattle.resolving_laws.proofs.Permuted.{Permuted, length-permuted}
-use Rattle.resolving_laws.proofs.All.{All, all-weaker}
-use Rattle.resolving_laws.proofs.Clashing.{clashes, never-clash}
+use Rattle.text.proofs.Permuted.{Permuted, length-permuted}
+use Rattle.text.proofs.All.{All, all-weaker}
+use Rattle.text.proofs.Clashing.{clashes, never-clash}
 use Rattle.resolving_laws.proofs.Passed.{gives-accepted}
 use Rattle.resolving_laws.proofs.Stands.{Written, Suited, Stands}
 use Rattle.resolving_laws.proofs.Standing.{all-stand}

@@ -5,10 +5,10 @@ use mathlib.Core.Bool.{Bool, true, _&&_, false≢true}
 use mathlib.Core.List.{List, [], _∷_}
 use Rattle.text.proofs.Tests.{halves}
 use Rattle.reading.specs.Statement.{Statement}
-use Rattle.resolving.specs.Lists.{sameBytes}
+use Rattle.text.specs.Lists.{sameBytes}
 use Rattle.resolving_laws.specs.Same.{occurrences, sameList, sameStatement, statementWords}
-use Rattle.resolving_laws.proofs.Permuted.{Permuted}
-use Rattle.resolving_laws.proofs.Often.{often-permuted, permuted-often}
+use Rattle.text.proofs.Permuted.{Permuted}
+use Rattle.text.proofs.Often.{often-permuted, permuted-often}
 use Rattle.resolving_laws.proofs.Entries.{bytes-equal, bytes-self}
 use Rattle.resolving_laws.proofs.FromWords.{from-words, statementFrom}
 

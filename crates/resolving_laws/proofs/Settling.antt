@@ -10,15 +10,16 @@ use borrow.Author.Tests.{le-ltb}
 use Rattle.reading.specs.Statement.{Statement}
 use Rattle.reading.specs.Answer.{Answer, accepted, _>>=_}
 use Rattle.canonical.specs.Canonical.{canonical}
-use Rattle.resolving.specs.Lists.{gather, again}
+use Rattle.text.specs.Lists.{gather, again}
 use Rattle.resolving.specs.Context.{Context}
 use Rattle.resolving.specs.Symbols.{lets, sameKey, lookUp}
 use Rattle.resolving.specs.Brought.{Brought, bring, eachFrom}
 use Rattle.resolving.specs.Merging.{effectsIn, forcedAgain, merged}
 use Rattle.resolving.specs.Ground.{ground}
 use Rattle.resolving.specs.Resolve.{Resolved, mergeAndGround, resolve, outcome}
-use Rattle.resolving_laws.proofs.All.{All}
-use Rattle.resolving_laws.proofs.Passed.{once-passed, up-to-passed, bind-passed}
+use Rattle.text.proofs.All.{All}
+use Rattle.resolving_laws.proofs.Passed.{once-passed, up-to-passed}
+use Rattle.reading.proofs.Answers.{bind-passed}
 use Rattle.resolving_laws.proofs.SymbolLaws.{isLet, without-lets}
 
 pub record Settles (c : Context) (bs : List Brought) : Type 0 where

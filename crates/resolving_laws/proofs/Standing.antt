@@ -50,13 +50,13 @@ use Rattle.reading.specs.Statement.{
 use Rattle.reading.specs.Answer.{Answer, accepted, refused, _>>=_}
 use Rattle.reading_laws.specs.WellFormed.{Gives, given, nothing}
 use Rattle.reading_laws.proofs.Giving.{gives-bind, fault-given}
-use Rattle.resolving.specs.Lists.{any, gather, isNil}
+use Rattle.text.specs.Lists.{any, gather, isNil}
 use Rattle.resolving.specs.Context.{Context, covariates, kindAt}
 use Rattle.resolving.specs.Symbols.{Meaning}
 use Rattle.resolving.specs.Operands.{entryOf, held}
 use Rattle.resolving.specs.Effects.{formsOf, suits, optionalNumber, operatorNumber, formEffects, effectsOf, against}
 use Rattle.resolving.specs.Brought.{dropped, stays, brings, isExplicit, whole, plainName, listed, dropIf, bringFeature, bring, eachFrom}
-use Rattle.resolving_laws.proofs.All.{All, all-both, all-gather, all-map, none-all, all-of}
+use Rattle.text.proofs.All.{All, all-both, all-gather, all-map, none-all, all-of}
 use Rattle.resolving_laws.proofs.Passed.{each-gives}
 use Rattle.resolving_laws.proofs.EffectLaws.{mark-back, operator-back}
 use Rattle.resolving_laws.proofs.Entries.{FirstAt, Entries, entry-first, held-again, parameters-give, covariates-give, spelledOut}

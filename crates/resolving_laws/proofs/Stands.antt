@@ -11,7 +11,7 @@ use Rattle.resolving.specs.Symbols.{Meaning}
 use Rattle.resolving.specs.Effects.{Effect, suits, operatorNumber, optionalNumber}
 use Rattle.resolving.specs.Brought.{Brought, defining, dropped, stays, brings, bringFeature}
 use Rattle.resolving.specs.Ground.{Group, groupOf, operatorAs, isOptional}
-use Rattle.resolving_laws.proofs.All.{All}
+use Rattle.text.proofs.All.{All}
 use Rattle.resolving_laws.proofs.Entries.{FirstAt}
 
 -- what can be written in a ground COVARIATE, but for the form

@@ -6,20 +6,20 @@ use mathlib.Core.Bool.{Bool, true, false, cond, _||_, true≢false, false≢true
 use mathlib.Core.List.{List}
 use mathlib.Core.Option.{Option, some, none}
 use Rattle.text.proofs.Tests.{refuted}
-use Rattle.labels.specs.Word.{sameWord, absent}
+use Rattle.labels.specs.Word.{sameWord}
 use Rattle.labels.proofs.Words.{same-sym, same-trans}
 use Rattle.reading.specs.Statement.{Statement, Let, feature}
 use Rattle.reading.specs.Answer.{Answer}
-use Rattle.resolving.specs.Lists.{any, again}
+use Rattle.text.specs.Lists.{any, again, absent}
 use Rattle.resolving.specs.Context.{Context}
 use Rattle.resolving.specs.Builtins.{builtin}
 use Rattle.resolving.specs.Symbols.{Meaning, Definition, lets, sameKey, letting, meaningAfter, lookUp}
 use Rattle.resolving.specs.Resolve.{atMostOnce, withSymbols}
 use Rattle.resolving_laws.specs.Alike.{Alike, neither}
-use Rattle.resolving_laws.proofs.Bools.{equally}
-use Rattle.resolving_laws.proofs.Permuted.{Permuted, front, further, swapped, unmoved}
-use Rattle.resolving_laws.proofs.All.{All, all-none, all-of, also, finished, neither-one}
-use Rattle.resolving_laws.proofs.Clashing.{again-permuted, clashes, clashes-permuted, never-again, never-clash}
+use Rattle.text.proofs.Bools.{equally}
+use Rattle.text.proofs.Permuted.{Permuted, front, further, swapped, unmoved}
+use Rattle.text.proofs.All.{All, all-none, all-of, also, finished, neither-one}
+use Rattle.text.proofs.Clashing.{again-permuted, clashes, clashes-permuted, never-again, never-clash}
 
 key-sym : (d f : Option Definition) → sameKey d f ≡ sameKey f d
 key-sym none none = refl

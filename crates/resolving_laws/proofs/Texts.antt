@@ -10,7 +10,7 @@ use Rattle.reading.specs.Answer.{Answer, accepted, refused, _>>=_}
 use Rattle.reading.specs.Read.{readText}
 use Rattle.canonical_laws.specs.Forgotten.{forget}
 use Rattle.resolving.specs.Context.{Context}
-use Rattle.resolving.specs.Lists.{any}
+use Rattle.text.specs.Lists.{any}
 use Rattle.resolving.specs.Effects.{Effect}
 use Rattle.resolving.specs.Merging.{sameEffect}
 use Rattle.resolving.specs.Resolve.{Resolved, resolve, additive}
@@ -18,11 +18,11 @@ use Rattle.resolving.specs.Given.{Given, isContext, contextIn, resolveText}
 use Rattle.resolving_laws.specs.Alike.{Alike, neither}
 use Rattle.resolving_laws.specs.Same.{occurrences}
 use Rattle.resolving_laws.specs.Claims.{SameStatements, SameEffects, Reordered, SameLength, isDropped, Kept}
-use Rattle.resolving_laws.proofs.Permuted.{Permuted, any-permuted}
-use Rattle.resolving_laws.proofs.All.{All}
+use Rattle.text.proofs.Permuted.{Permuted, any-permuted}
+use Rattle.text.proofs.All.{All}
 use Rattle.resolving_laws.proofs.Below.{Below64, resolved-below}
 use Rattle.resolving_laws.proofs.Answering.{alike-weaker}
-use Rattle.resolving_laws.proofs.Passed.{refused≢accepted}
+use Rattle.reading.proofs.Answers.{not-refused}
 use Rattle.resolving_laws.proofs.Reordering.{Likewise, resolve-permuted}
 use Rattle.resolving_laws.proofs.Places.{resolve-forgets}
 use Rattle.resolving_laws.proofs.SameLaws.{as-often-permuted}
@@ -94,8 +94,8 @@ answered-so limit g text r e = by-cases (readText limit text) (isContext g) refl
     by-cases :
         (a : Answer (List Statement)) (t : Bool) → readText limit text ≡ a → isContext g ≡ t → answered g t a ≡ accepted r
         → Answered limit g text r
-    by-cases (refused n p) t h k e = absurd (refused≢accepted e)
-    by-cases (accepted ss) false h k e = absurd (refused≢accepted e)
+    by-cases (refused n p) t h k e = absurd (not-refused e)
+    by-cases (accepted ss) false h k e = absurd (not-refused e)
     by-cases (accepted ss) true h k e = record { statements = ss; read = h; stands = k; resolves = e }
 
 -- Rereading: where a text resolves in a context, its ground text is accepted, is its own canonical text, and resolves in that context, to the

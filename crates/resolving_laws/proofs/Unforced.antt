@@ -7,14 +7,14 @@ use mathlib.Core.Option.{none}
 use lib.Dec.{eqb}
 use borrow.Author.Tests.{eqb-true}
 use Rattle.text.proofs.Tests.{halves, refuted}
-use Rattle.resolving.specs.Lists.{any, gather}
+use Rattle.text.specs.Lists.{any, gather}
 use Rattle.resolving.specs.Effects.{Effect}
 use Rattle.resolving.specs.Brought.{Brought, defining, dropped, stays, brings}
 use Rattle.resolving.specs.Merging.{samePair, isMandatory, overridden, forcesWith, bothForce, forcedAgain}
 use Rattle.resolving.specs.Ground.{Group, sameGroup, groupOf, groups}
-use Rattle.resolving_laws.proofs.All.{All, neither-one, all-weaker, all-of, all-keep, all-map, none-all, all-none}
-use Rattle.resolving_laws.proofs.Clashing.{clashes, never-again}
-use Rattle.resolving_laws.proofs.Once.{firsts-once}
+use Rattle.text.proofs.All.{All, neither-one, all-weaker, all-of, all-keep, all-map, none-all, all-none}
+use Rattle.text.proofs.Clashing.{clashes, never-again}
+use Rattle.text.proofs.Once.{firsts-once}
 use Rattle.resolving_laws.proofs.EffectLaws.{group-equal, group-self}
 use Rattle.resolving_laws.proofs.MergedLaws.{Agree}
 use Rattle.resolving_laws.proofs.Regrouped.{block}

@@ -9,10 +9,10 @@ use mathlib.Core.Option.{some, none, Option·map}
 use lib.Dec.{ltb}
 use lib.ListN.{length}
 use borrow.Author.Tests.{ltb-false}
-use Rattle.text.proofs.Tests.{and-left, and-right}
+use Rattle.text.proofs.Tests.{and-left, and-right, both}
 use Rattle.text.specs.Bytes.{bytes}
 use Rattle.tokens.specs.Spelling.{isName}
-use Rattle.token_laws.specs.Shaped.{all}
+use Rattle.text.specs.Lists.{all, any, gather, isNil}
 use Rattle.labels.specs.declared.Family.the-variants.{
   AbsorptionMode,
   EliminationMode,
@@ -54,9 +54,8 @@ use Rattle.reading.specs.Statement.{
 use Rattle.reading.specs.Answer.{Answer, accepted, refused, _>>=_}
 use Rattle.reading.specs.Parts.{featureParts}
 use Rattle.reading_laws.specs.WellFormed.{isPlace, wellModes, wellOperand, wellPart, wellTogether, wellParts, wellFeature, wellFormed, Gives, given, nothing}
-use Rattle.reading_laws.proofs.Tests.{both, Passing, all-passing}
+use Rattle.text.proofs.Passing.{Passing, all-passing}
 use Rattle.reading_laws.proofs.Giving.{gives-bind}
-use Rattle.resolving.specs.Lists.{any, gather, isNil}
 use Rattle.resolving.specs.Context.{Context, covariates, kindAt}
 use Rattle.resolving.specs.Symbols.{Meaning}
 use Rattle.resolving.specs.Effects.{Effect, optionalNumber, operatorNumber, formEffects, effectsOf, against}
@@ -75,7 +74,7 @@ use Rattle.resolving.specs.Brought.{
   bring,
   eachFrom,
 }
-use Rattle.resolving_laws.proofs.All.{All, all-of, all-weaker, all-gather, all-map}
+use Rattle.text.proofs.All.{All, all-of, all-weaker, all-gather, all-map}
 use Rattle.resolving_laws.proofs.Passed.{each-gives}
 use Rattle.resolving_laws.proofs.Entries.{Entries, entry-first, parameters-give, covariates-give}
 use Rattle.resolving_laws.proofs.WellParts.{entry-named, forms-well, listed-well, maybe-whole, whole-well, true-all}

@@ -9,11 +9,10 @@ use mathlib.Core.Option.{Option, some, none, Option·map}
 use lib.Dec.{eqb, leb}
 use lib.ListN.{length, getD, length-map}
 use borrow.Author.Tests.{le-leb}
-use Rattle.reading_laws.proofs.Tests.{both}
-use Rattle.text.proofs.Tests.{and-left, and-right}
+use Rattle.text.proofs.Tests.{and-left, and-right, both}
 use Rattle.tokens.specs.Spelling.{isName}
-use Rattle.token_laws.specs.Shaped.{all}
-use Rattle.token_laws.proofs.Tests.{all-at}
+use Rattle.text.specs.Lists.{all, isNil}
+use Rattle.text.proofs.Passing.{all-at}
 use Rattle.labels.specs.Label.{labelsOf}
 use Rattle.labels.specs.declared.Family.{Family}
 use Rattle.labels.specs.declared.Family.the-variants.{
@@ -32,13 +31,12 @@ use Rattle.labels.specs.declared.Family.the-variants.{
 use Rattle.reading.specs.Statement.{Modes, allModes, modes}
 use Rattle.reading.specs.Parts.{modesPart, somePart}
 use Rattle.reading_laws.specs.WellFormed.{oneTo64, wellNamed, isPlace, noneTwice, wellModes, wellOperand, wellPart}
-use Rattle.resolving.specs.Lists.{isNil}
 use Rattle.resolving.specs.Context.{CovariateKind, continuous, categorical}
 use Rattle.resolving.specs.Effects.{formsOf}
 use Rattle.resolving.specs.Brought.{whole, plainName, listed}
-use Rattle.resolving_laws.proofs.All.{All, finished, also, all-weaker, all-map}
-use Rattle.resolving_laws.proofs.Clashing.{clashes}
-use Rattle.resolving_laws.proofs.Once.{firsts-once}
+use Rattle.text.proofs.All.{All, finished, also, all-weaker, all-map}
+use Rattle.text.proofs.Clashing.{clashes}
+use Rattle.text.proofs.Once.{firsts-once}
 use Rattle.resolving_laws.proofs.Fewness.{place-below, at-most}
 use Rattle.resolving_laws.proofs.Entries.{FirstAt, Entries}
 

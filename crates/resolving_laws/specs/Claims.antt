@@ -10,7 +10,7 @@ use Rattle.reading.specs.Answer.{accepted}
 use Rattle.reading.specs.Read.{readText}
 use Rattle.canonical.specs.Print.{printText}
 use Rattle.canonical_laws.specs.Forgotten.{forget}
-use Rattle.resolving.specs.Lists.{any}
+use Rattle.text.specs.Lists.{any}
 use Rattle.resolving.specs.Effects.{Effect}
 use Rattle.resolving.specs.Merging.{sameEffect}
 use Rattle.resolving.specs.Resolve.{Note, Resolved, groundText}

@@ -37,7 +37,7 @@ use Rattle.reading.specs.Parts.{
   Parts,
   partsOf,
 }
-use Rattle.resolving.specs.Lists.{keep, sameBytes}
+use Rattle.text.specs.Lists.{keep, sameBytes}
 use Rattle.resolving.specs.Effects.{optionalNumber}
 
 -- what an argument is, and then its words

@@ -1,2 +1,12 @@
 pub mod Tests
 pub mod Lists
+pub mod Passing
+pub mod Bools
+pub mod Permuted
+pub mod All
+pub mod Appended
+pub mod Clashing
+pub mod Once
+pub mod Runs
+pub mod Often
+pub mod Grouping

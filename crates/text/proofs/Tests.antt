@@ -14,6 +14,10 @@ and-right false b e = absurd (false≢true e)
 pub halves : (a b : Bool) → (a && b) ≡ true → (a ≡ true) × (b ≡ true)
 halves a b e = (and-left a b e, and-right a b e)
 
+-- two tests that pass, as one
+pub both : {a b : Bool} → a ≡ true → b ≡ true → (a && b) ≡ true
+both e h = simp (e, h)
+
 pub or-left : (a b : Bool) → (a || b) ≡ false → a ≡ false
 or-left true b e = e
 or-left false b e = refl

@@ -14,7 +14,7 @@ use Rattle.tokens.proofs.Runs.{span-most}
 use Rattle.tokens.proofs.Numbers.{number-most}
 use Rattle.tokens.proofs.Steps.{dots-case}
 use Rattle.token_laws.specs.Follow.{startsWith, moreNumber}
-use Rattle.token_laws.proofs.Tests.{or-left, or-right}
+use Rattle.text.proofs.Tests.{or-left, or-right}
 
 -- a run ends where a text is followed by a byte that fails the test
 pub span-append : (p : ℕ → Bool) (l r : List ℕ) → startsWith p r ≡ false → span p (l ++ r) ≡ span p l

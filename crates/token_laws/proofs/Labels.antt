@@ -10,8 +10,8 @@ use Rattle.tokens.specs.Spelling.{isWord}
 use Rattle.labels.specs.Label.{labelsOf, keywords}
 use Rattle.labels.specs.declared.Family.{Family}
 use Rattle.labels.proofs.Families.{by-family}
-use Rattle.token_laws.specs.Shaped.{all}
-use Rattle.token_laws.proofs.Tests.{all-at}
+use Rattle.text.specs.Lists.{all}
+use Rattle.text.proofs.Passing.{all-at}
 
 -- all of a family's labels are words, and all the keywords: tests that compute
 labels-words : (f : Family) → all isWord (labelsOf f) ≡ true

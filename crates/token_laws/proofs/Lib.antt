@@ -1,4 +1,3 @@
-pub mod Tests
 pub mod Fronts
 pub mod Joining
 pub mod Shapes

@@ -21,7 +21,7 @@ use Rattle.tokens.proofs.Numbers.{fraction-case, number-most}
 use Rattle.tokens.proofs.Steps.{dots-case}
 use Rattle.token_laws.specs.Follow.{startsWith}
 use Rattle.token_laws.specs.Shaped.{allShapes}
-use Rattle.token_laws.proofs.Tests.{every-run, span-every}
+use Rattle.text.proofs.Passing.{every-run, span-every}
 use Rattle.token_laws.proofs.Fronts.{span-append, reach}
 
 -- a run's bytes are the run again

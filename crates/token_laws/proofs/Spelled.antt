@@ -19,8 +19,10 @@ use Rattle.tokens.proofs.Classes.{class-by-number}
 use Rattle.tokens.proofs.Steps.{token, passed-by}
 use Rattle.token_laws.specs.Join.{placed}
 use Rattle.token_laws.specs.Follow.{startsWith, moreNumber, mayFollow}
-use Rattle.token_laws.specs.Shaped.{all}
-use Rattle.token_laws.proofs.Tests.{and-left, and-right, every-member, span-every}
+use Rattle.text.specs.Lists.{all}
+use Rattle.text.proofs.Tests.{and-left, and-right}
+use Rattle.text.proofs.Lists.{every-member}
+use Rattle.text.proofs.Passing.{span-every}
 use Rattle.token_laws.proofs.Fronts.{span-append, number-append}
 
 -- a token whose bytes are those before the rest

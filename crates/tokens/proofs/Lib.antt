@@ -5,3 +5,4 @@ pub mod Numbers
 pub mod Firsts
 pub mod Views
 pub mod Scans
+pub mod Spelling

@@ -8,7 +8,7 @@ use Rattle.tokens.specs.Class.{classOf, classTable}
 use Rattle.labels.specs.Label.{labelsOf, keywords}
 use Rattle.labels.specs.Table.{labelTable, keywordTable}
 use Rattle.reading_laws.specs.Admitted.{Admitted}
-use Rattle.read_statements.specs.Answers.{AdmissionAs}
+use Rattle.read_forms.specs.Admission.{AdmissionAs}
 use Rattle.numbers_all.proofs.Answering.{refused-answers}
 use Rattle.numbers_all.proofs.all_numbers_under.Statement.{statement}
 use Rattle.numbers_all.proofs.all_numbers_under.Tie as tie
@@ -18,9 +18,7 @@ returns c =
     let r = c .before .r .given in
     let d = c .before .before .before in
     let a = d .before .before .before .args in
-    let h =
-    refused-answers (a .limit) (now (a .text)) (now (a .out)) (r .0 .0) (subst (AdmissionAs (a .limit) (now (a .text))) (r .1) (d .admit .ensures)) in
-    (h .told, h .numbers)
+    refused-answers (a .limit) (now (a .text)) (now (a .out)) (r .0 .0) (subst (AdmissionAs (a .limit) (now (a .text))) (r .1) (d .admit .ensures))
 
 -- the text and its ceiling are admitted
 fine :
@@ -38,15 +36,9 @@ put-read-requires c κs =
     let e = c .before .before .before .before in
     (refl, refl, refl, fine (e .before), e .if1 .taken)
 
-returns-2 : tie.Need-returns-2
-returns-2 c = let h = c .before .before .put-read .ensures in (h .told, h .numbers)
-
 put-short-requires : tie.Need-put-short-requires
 unfolding classTable classOf labelTable labelsOf keywordTable keywords
 put-short-requires c κs = (refl, refl, refl, fine (c .before .before .before .before .before))
-
-returns-3 : tie.Need-returns-3
-returns-3 c = let h = c .before .before .put-short .ensures in (h .told, h .numbers)
 
 pub all-numbers-under-spec : {M : Type 1} → statement M
 all-numbers-under-spec =
@@ -59,7 +51,7 @@ all-numbers-under-spec =
     mul-if1
     put-read-requires
     (λ c. search needs)
-    returns-2
+    (λ c. search needs)
     put-short-requires
     (λ c. search needs)
-    returns-3)
+    (λ c. search needs))

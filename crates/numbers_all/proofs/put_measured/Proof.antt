@@ -4,7 +4,6 @@ use denote.Ref.{now}
 use lib.Seq.{length-take-le}
 use Rattle.canonical.specs.Numbers.{allNumbersOf}
 use Rattle.read_space.specs.Space.{statementsIn}
-use Rattle.numbers_statement.specs.Answers.{numbersAs}
 use Rattle.numbers_statement.proofs.Whole.{too-short, long-enough}
 use borrow.Author.Needs.{needs}
 use Rattle.numbers_all.proofs.put_measured.Statement.{statement}
@@ -18,23 +17,19 @@ slice-aggregate-put-space c =
     sym (length-take-le _ (now (c .before .before .before .args .out)) (slice-relend-prefix-put-space (c .before)))
 
 returns : tie.Need-returns
-unfolding numbersAs
 returns c =
     let p = c .before .before .before in
     let a = p .before .before .before .before .args in
     let ns = allNumbersOf (statementsIn (now (a .text)) (a .space)) in
-    let h = too-short (now (a .out)) ns _ (p .put-space .result) (p .put-space .ensures) (c .if1 .taken) in
-    record { told = h .0; numbers = h .1 }
+    too-short (now (a .out)) ns _ (p .put-space .result) (p .put-space .ensures) (c .if1 .taken)
 
 returns-2 : tie.Need-returns-2
-unfolding numbersAs
 returns-2 c =
     let f = c .before .before .before .before in
     let p = f .before .before .before in
     let a = p .before .before .before .before .args in
     let ns = allNumbersOf (statementsIn (now (a .text)) (a .space)) in
-    let h = long-enough (now (a .out)) ns _ (p .put-space .result) (p .put-space .ensures) _ _ (f .if1 .left) (c .before .before .put-space2 .ensures) in
-    record { told = h .0; numbers = h .1 }
+    long-enough (now (a .out)) ns _ (p .put-space .result) (p .put-space .ensures) _ _ (f .if1 .left) (c .before .before .put-space2 .ensures)
 
 pub put-measured-spec : {M : Type 1} → statement M
 put-measured-spec =

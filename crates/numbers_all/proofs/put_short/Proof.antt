@@ -3,6 +3,7 @@
 use denote.Ref.{now}
 use borrow.Author.Needs.{needs}
 use Rattle.read_space.proofs.Endings.{read-accepted, read-refused}
+use Rattle.numbers_statement.specs.Answers.{numbersAs}
 use Rattle.numbers_all.proofs.Answering.{refused-answers, accepted-answers}
 use Rattle.numbers_all.proofs.put_short.Statement.{statement}
 use Rattle.numbers_all.proofs.put_short.Tie as tie
@@ -29,7 +30,7 @@ returns-2 c =
     let x = p .before .before in
     let k = x .before .before in
     let a = k .before .before .before .args in
-    accepted-answers (a .limit) (now (a .text)) (now (a .out)) _ _ (p .put-measured .result)
+    accepted-answers (a .limit) (now (a .text)) (now (a .out)) _ _ (numbersAs (p .put-measured .result))
     (read-accepted _ _ (k .read-space .result) (k .read-space .ensures .0) (x .enum-told .given .1))
     (p .put-measured .ensures)
 

@@ -5,15 +5,15 @@ use lib.ListN.{length}
 use Rattle.tokens.specs.Class.{classOf, classTable}
 use Rattle.reading.specs.Statement.{Statement}
 use Rattle.reading.specs.Answer.{Answer, accepted}
-use Rattle.canonical.specs.Print.{lengthOf, fitting, output}
 use Rattle.canonical.specs.Numbers.{numbersOf}
 use Rattle.read_forms.specs.Forms.{statementIn}
 use Rattle.read_parts.proofs.Fitting.{statement-fits}
-use Rattle.read_statements.specs.Answers.{statementAs}
-use Rattle.read_statements.proofs.Found.{found-as-read}
-use Rattle.read_statements.specs.Answers.{stating}
-use Rattle.numbers_statement.specs.Answers.{numbered, numbersAs}
-use Rattle.numbers_statement.proofs.Whole.{statement-numbers, numbers-ready, handed-on}
+use Rattle.read_text.specs.Answers.{statementAs}
+use Rattle.reading_laws.proofs.Calls.{found-as-read}
+use Rattle.reading.specs.Calls.{stating}
+use Rattle.numbers_statement.specs.Answers.{numbered, numbering}
+use Rattle.print_writing.proofs.Answering.{refused-answers}
+use Rattle.numbers_statement.proofs.Whole.{statement-numbers, numbers-ready}
 use borrow.Author.Needs.{needs}
 use Rattle.numbers_statement.proofs.numbers_under.Statement.{statement}
 use Rattle.numbers_statement.proofs.numbers_under.Tie as tie
@@ -54,13 +54,14 @@ returns c =
     rw (← whole d) e
 
 returns-2 : tie.Need-returns-2
-unfolding numbersAs statementAs
+unfolding statementAs
 returns-2 c =
     let d = c .before in
     let k = d .before .before in
     let a = k .before .before .before .args in
     let r = d .refusal .given .0 .0 in
-    handed-on (now (a .out)) _ (r .number) (r .place) (sym (ap (statementAs (now (a .text))) (d .refusal .given .1)) ∙ k .statement-under .ensures)
+    refused-answers (now (a .out)) (numbering (a .limit) (now (a .text)) (a .index)) (r .number) (r .place)
+    (ap numbered (sym (k .statement-under .ensures) ∙ ap (statementAs (now (a .text))) (d .refusal .given .1)))
 
 pub numbers-under-spec : {M : Type 1} → statement M
 numbers-under-spec =

@@ -3,7 +3,6 @@ use mathlib.Core.Path.{sym}
 use denote.Ref.{now}
 use lib.Seq.{length-take-le}
 use Rattle.numbers_statement.specs.Entries.{takenIn}
-use Rattle.numbers_statement.specs.Answers.{numbersAs}
 use Rattle.numbers_statement.proofs.Whole.{too-short, long-enough}
 use borrow.Author.Needs.{needs}
 use Rattle.numbers_statement.proofs.put_whole.Statement.{statement}
@@ -17,14 +16,12 @@ slice-aggregate-put-parts c =
     sym (length-take-le _ (now (c .before .before .before .args .out)) (slice-relend-prefix-put-parts (c .before)))
 
 returns : tie.Need-returns
-unfolding numbersAs
 returns c =
     let p = c .before .before .before in
     let a = p .before .before .before .before .args in
     too-short (now (a .out)) (takenIn (now (a .text)) (a .parts)) _ (p .put-parts .result) (p .put-parts .ensures) (c .if1 .taken)
 
 returns-2 : tie.Need-returns-2
-unfolding numbersAs
 returns-2 c =
     let f = c .before .before .before .before in
     let p = f .before .before .before in

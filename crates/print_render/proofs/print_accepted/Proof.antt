@@ -9,7 +9,8 @@ use borrow.Author.Needs.{needs}
 use Rattle.canonical.specs.Canonical.{canonical}
 use Rattle.canonical_laws.proofs.Shorter.{not-longer}
 use Rattle.print_writing.specs.Written.{Written}
-use Rattle.print_render.proofs.Answering.{none-lent, room-answers, no-room-answers}
+use Rattle.print_writing.proofs.Answering.{none-lent}
+use Rattle.print_render.proofs.Answering.{room-answers, no-room-answers}
 use Rattle.print_render.proofs.print_accepted.Statement.{statement}
 use Rattle.print_render.proofs.print_accepted.Tie as tie
 

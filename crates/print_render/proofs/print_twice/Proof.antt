@@ -6,8 +6,8 @@ use Rattle.tokens.specs.Class.{classOf, classTable}
 use Rattle.labels.specs.Label.{labelsOf, keywords}
 use Rattle.labels.specs.Table.{labelTable, keywordTable}
 use Rattle.reading.specs.Read.{readText}
-use Rattle.read_statements.specs.Answers.{countAs}
-use Rattle.read_statements.proofs.Whole.{counted-accepted, counted-refused}
+use Rattle.read_text.specs.Answers.{countAs}
+use Rattle.reading_laws.proofs.Calls.{counted-accepted, counted-refused}
 use Rattle.print_render.proofs.Answering.{refused-answers}
 use Rattle.print_render.proofs.print_twice.Statement.{statement}
 use Rattle.print_render.proofs.print_twice.Tie as tie

@@ -6,8 +6,8 @@ use Rattle.tokens.specs.Class.{classOf, classTable}
 use Rattle.reading_laws.specs.Admitted.{Admitted}
 use Rattle.labels.specs.Label.{labelsOf, keywords}
 use Rattle.labels.specs.Table.{labelTable, keywordTable}
-use Rattle.read_statements.specs.Answers.{AdmissionAs}
-use Rattle.print_render.specs.Text.{KeptAs}
+use Rattle.read_forms.specs.Admission.{AdmissionAs}
+use Rattle.print_render.specs.Text.{printedAs, KeptAs}
 use Rattle.print_render.proofs.Answering.{refused-answers}
 use Rattle.print_render.proofs.Keeping.{answers-next, refused-next}
 use Rattle.print_render.proofs.print_under.Statement.{statement}
@@ -59,7 +59,7 @@ returns-5 c =
     let a = k .before .before .before .before .before .before .before .before .before .before .before .args in
     answers-next (a .limit) (now (a .text)) (now (a .out)) (k .print-kept .last .1 .1 .1 .1 .0) (t .print-twice2 .last .1 .0)
     (subst (KeptAs (a .limit) (now (a .text)) (now (a .out)) (k .print-kept .last .1 .1 .1 .1 .0)) (m .enum-told2 .given .1) (k .print-kept .ensures))
-    (t .print-twice2 .result) (t .print-twice2 .ensures)
+    (printedAs (t .print-twice2 .result)) (t .print-twice2 .ensures)
 
 pub print-under-spec : {M : Type 1} → statement M
 print-under-spec =

@@ -5,7 +5,7 @@ use borrow.Author.Needs.{needs}
 use Rattle.tokens.specs.Class.{classOf, classTable}
 use Rattle.labels.specs.Label.{labelsOf, keywords}
 use Rattle.labels.specs.Table.{labelTable, keywordTable}
-use Rattle.read_statements.specs.Answers.{AdmissionAs}
+use Rattle.read_forms.specs.Admission.{AdmissionAs}
 use Rattle.read_profile.specs.Answers.{profiledAs}
 use Rattle.read_profile.proofs.Answering.{refused-so}
 use Rattle.read_profile.proofs.profile_under.Statement.{statement}

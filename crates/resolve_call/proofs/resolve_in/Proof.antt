@@ -10,7 +10,7 @@ use Rattle.tokens.specs.Class.{classOf, classTable}
 use Rattle.labels.specs.Label.{labelsOf, keywords}
 use Rattle.labels.specs.Table.{labelTable, keywordTable}
 use Rattle.reading_laws.specs.Admitted.{Admitted}
-use Rattle.read_statements.specs.Answers.{AdmissionAs}
+use Rattle.read_forms.specs.Admission.{AdmissionAs}
 use Rattle.resolve_settling.specs.Answers.{resolvedAs}
 use Rattle.resolve_settling.specs.Attempts.{AttemptAs}
 use Rattle.resolve_settling.proofs.Answering.{refused-answers, answers-back}

@@ -8,7 +8,7 @@ use denote.Ref.{now}
 use borrow.Author.Tests.{eq-eqb, ne-eqb}
 use lib.Dec.{eqb}
 use lib.ListN.{length, getD, drop}
-use Rattle.resolving.specs.Lists.{sameBytes}
+use Rattle.text.specs.Lists.{sameBytes}
 use Rattle.resolve_context.proofs.Equal.{lengths-differ, same-step, same-end}
 use Rattle.resolve_context.proofs.same_bytes.Statement.{statement}
 use Rattle.resolve_context.proofs.same_bytes.Tie as tie

@@ -8,7 +8,7 @@ use native.Mathlib.Omega.{arith}
 use denote.Ref.{now}
 use borrow.Author.Needs.{needs}
 use Rattle.read_forms.specs.Items.{nameIn}
-use Rattle.resolving.specs.Lists.{placeIn, sameBytes}
+use Rattle.text.specs.Lists.{placeIn, sameBytes}
 use Rattle.resolving.specs.Context.{covariates}
 use Rattle.resolving.specs.Handed.{handedContext}
 use Rattle.resolve_context.specs.declared.Found.{Found}

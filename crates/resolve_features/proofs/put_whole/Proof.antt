@@ -13,7 +13,7 @@ use Rattle.read_forms.specs.declared.Statement.the-variants as statement
 use Rattle.read_parts.specs.declared.Parts.{Parts}
 use Rattle.read_parts.specs.Apart.{apart}
 use Rattle.read_parts.proofs.Meaning.{taken}
-use Rattle.print_render.specs.Text.{jointOf}
+use Rattle.canonical.specs.Lines.{jointOf}
 use Rattle.print_statements.specs.Bytes.{bytesOf}
 use Rattle.print_writing.specs.Written.{Room}
 use Rattle.print_writing.proofs.Writing.{room-same}

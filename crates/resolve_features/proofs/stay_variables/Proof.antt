@@ -17,7 +17,7 @@ use Rattle.resolve_context.specs.Lists.{namesIn, Stands, layoutOf}
 use Rattle.resolve_context.proofs.Meaning.{handed-heads-fit, parameters-are, parameters-sound}
 use Rattle.resolve_operands.specs.Picked.{Indexes}
 use Rattle.resolve_operands.specs.Entries.{parametersIn}
-use Rattle.print_render.specs.Text.{jointOf}
+use Rattle.canonical.specs.Lines.{jointOf}
 use Rattle.print_writing.proofs.Writing.{room-same}
 use Rattle.print_writing.proofs.Going.{going, further, finished, room-left, room-first}
 use Rattle.resolve_grounding.specs.Listed.{variableBytes}

@@ -7,8 +7,7 @@ use native.Mathlib.Omega.{arith}
 use lib.ListN.{length, take}
 use denote.Ref.{now}
 use borrow.Author.Needs.{needs}
-use Rattle.print_render.specs.Text.{jointOf}
-use Rattle.print_render.specs.Text.{restOf}
+use Rattle.canonical.specs.Lines.{jointOf, restOf}
 use Rattle.resolving.specs.Context.{Context}
 use Rattle.resolving.specs.Effects.{Effect}
 use Rattle.resolving.specs.Ground.{groundEffects}

@@ -10,7 +10,7 @@ use borrow.Author.Tests.{eq-eqb, ne-eqb}
 use lib.Dec.{eqb}
 use lib.ListN.{take, getD}
 use lib.Seq.{slice}
-use Rattle.resolving.specs.Lists.{any}
+use Rattle.text.specs.Lists.{any}
 use Rattle.resolve_merging.specs.Packing.{effectOf}
 use Rattle.resolve_merging.proofs.Mapped.{any-map}
 use Rattle.resolve_merging.proofs.Scans.{scan-step, scan-none}

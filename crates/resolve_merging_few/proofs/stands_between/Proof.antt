@@ -7,7 +7,7 @@ use mathlib.Core.Path.{_≡_, refl, sym, _∙_}
 use mathlib.Core.Bool.{_||_}
 use lib.ListN.{getD}
 use lib.Seq.{slice}
-use Rattle.resolving.specs.Lists.{any}
+use Rattle.text.specs.Lists.{any}
 use Rattle.resolve_merging.proofs.Scans.{scan-step, scan-none}
 use Rattle.resolve_merging_few.specs.Scans.{passesBy}
 use Rattle.resolve_merging_few.proofs.stands_between.Statement.{statement}

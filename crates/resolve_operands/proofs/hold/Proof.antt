@@ -9,7 +9,7 @@ use denote.Ref.{now}
 use borrow.Author.Needs.{needs}
 use lib.ListN.{length}
 use Rattle.reading.specs.Answer.{accepted}
-use Rattle.resolving.specs.Lists.{sameBytes}
+use Rattle.text.specs.Lists.{sameBytes}
 use Rattle.resolving.specs.Operands.{held}
 use Rattle.resolving.specs.Handed.{handedContext}
 use Rattle.resolving_laws.proofs.Fewness.{place-below}

@@ -4,7 +4,7 @@ use mathlib.Core.List.{List, [], _∷_}
 use Prim.Native.Nat.{ℕ}
 use denote.Ref.{now}
 use borrow.Author.Needs.{needs}
-use Rattle.resolving.specs.Lists.{placeIn, sameBytes}
+use Rattle.text.specs.Lists.{placeIn, sameBytes}
 use Rattle.resolve_context.specs.Lists.{namesIn, foundAs}
 use Rattle.resolve_symbols.specs.Brings.{spelledIn}
 use Rattle.resolve_operands.specs.declared.Named.{Named}

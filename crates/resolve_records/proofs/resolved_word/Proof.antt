@@ -1,5 +1,6 @@
 -- `resolve_records::resolved_word` meets its contract. Assumes nothing.
 use mathlib.Core.Path.{_∙_, ap, sym, subst}
+use native.Mathlib.Omega.{arith}
 use borrow.Author.Needs.{needs}
 use Rattle.resolve_settling.specs.Answers.{resolvedAs}
 use Rattle.resolve_records.specs.Words.{resolvedWord, Small}
@@ -12,7 +13,9 @@ lengths-word-requires c κs = subst Small (ap resolvedAs (c .before .resolved .g
 
 refusal-word-requires : tie.Need-refusal-word-requires
 unfolding resolvedAs
-refusal-word-requires c κs = subst Small (ap resolvedAs (c .before .resolved2 .given .1)) (c .before .before .before .pre)
+refusal-word-requires c κs =
+    let h = subst Small (ap resolvedAs (c .before .resolved2 .given .1)) (c .before .before .before .pre) in
+    omega (arith, h)
 
 returns : tie.Need-returns
 unfolding resolvedAs

@@ -5,7 +5,7 @@ use Prim.Native.Nat.{ℕ, _<_}
 use borrow.Author.Needs.{needs}
 use denote.Ref.{now}
 use lib.ListN.{getD}
-use Rattle.resolving.specs.Lists.{keep}
+use Rattle.text.specs.Lists.{keep}
 use Rattle.resolve_context.specs.declared.Names.{Names}
 use Rattle.resolve_context.specs.Lists.{Sound, namesIn, covariatesOf}
 use Rattle.resolve_context.proofs.Meaning.{iiv-sound, covariates-sound}

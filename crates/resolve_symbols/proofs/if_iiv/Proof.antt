@@ -2,7 +2,7 @@
 use mathlib.Core.Path.{ap, subst}
 use borrow.Author.Needs.{needs}
 use denote.Ref.{now}
-use Rattle.resolving.specs.Lists.{keep}
+use Rattle.text.specs.Lists.{keep}
 use Rattle.resolve_context.specs.Lists.{namesIn}
 use Rattle.resolve_context.proofs.Meaning.{iiv-sound}
 use Rattle.resolve_symbols.specs.declared.Brought.{Brought}

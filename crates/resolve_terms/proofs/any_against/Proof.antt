@@ -10,7 +10,7 @@ use lib.ListN.{length, getD, drop}
 use denote.Ref.{now}
 use borrow.Author.Needs.{needs}
 use Rattle.read_forms.specs.Forms.{modesIn}
-use Rattle.resolving.specs.Lists.{any}
+use Rattle.text.specs.Lists.{any}
 use Rattle.resolving.specs.Effects.{against, formsOf}
 use Rattle.resolving.specs.Handed.{handedContext}
 use Rattle.resolve_terms.proofs.Steps.{any-here, any-later, any-none}

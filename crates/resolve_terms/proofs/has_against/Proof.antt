@@ -8,7 +8,7 @@ use borrow.Author.Needs.{needs}
 use borrow.Author.Tests.{not-true, not-false}
 use Rattle.read_packs.specs.Packs.{places}
 use Rattle.read_packs.proofs.Packed.{no-place, next-place}
-use Rattle.resolving.specs.Lists.{any}
+use Rattle.text.specs.Lists.{any}
 use Rattle.resolving.specs.Effects.{suits}
 use Rattle.resolve_terms.specs.Terms.{kindIn}
 use Rattle.resolve_terms.proofs.has_against.Statement.{statement}

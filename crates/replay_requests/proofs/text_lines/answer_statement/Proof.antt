@@ -2,7 +2,7 @@
 use Prim.Native.Nat.{_≤_}
 use mathlib.Core.Path.{subst}
 use borrow.Author.Needs.{needs}
-use Rattle.read_statements.specs.declared.StatementAt.{StatementAt}
+use Rattle.read_text.specs.declared.StatementAt.{StatementAt}
 use Rattle.read_values.specs.Lists.{foundLists}
 use Rattle.replay_requests.proofs.text_lines.answer_statement.Statement.{statement}
 use Rattle.replay_requests.proofs.text_lines.answer_statement.Tie as tie
