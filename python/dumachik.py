@@ -24,6 +24,7 @@ One file over a shared library, with ctypes alone. `tools/shared-library` makes 
 repository's target/staticlib, or where DUMACHIK_SO says.
 """
 import ctypes
+import dataclasses
 import operator
 import os
 import pathlib
@@ -68,6 +69,9 @@ MEANINGS = {
 OF_STATEMENTS = (13, 14, 15, 16, 17, 20, 22, 23, 24)
 OF_ALL = (1, 12, 18, 19, 21)
 
+# The kinds of declared covariates, by their numbers.
+KINDS = ("continuous", "categorical")
+
 VARIABILITY = ("EXP", "ADD", "PROP", "LOG", "RE_LOG")
 PD = ("LINEAR", "EMAX", "SIGMOID", "STEP", "LOGLIN")
 EFFECTS = ("lin", "piece_lin", "exp", "pow", "cat", "cat2", "custom")
@@ -111,12 +115,25 @@ class Refusal(ValueError):
             where = f" (line {self.line}, column {self.column})"
         super().__init__(f"{number} at {place}{where}: {MEANINGS[number]}")
 
+    def __reduce__(self):
+        # a copy, or one from another process, has no text to look the line up in
+        return _refusal, (self.args, self.__dict__)
 
-class Symbol(str):
-    """The name of a symbol, without its `@`."""
 
-    def __repr__(self):
-        return f"@{self!s}"
+def _refusal(args, fields):
+    refusal = Refusal.__new__(Refusal, *args)
+    refusal.__dict__.update(fields)
+    return refusal
+
+
+@dataclasses.dataclass(frozen=True)
+class Symbol:
+    """A symbol by its name, which is without the `@` that the text has before it. It is never equal to a name."""
+
+    name: str
+
+    def __str__(self):
+        return f"@{self.name}"
 
 
 class Statement(NamedTuple):
@@ -199,7 +216,11 @@ _library = _load()
 
 
 def _bytes(text):
-    return text.encode("utf-8") if isinstance(text, str) else bytes(text)
+    if isinstance(text, str):
+        return text.encode("utf-8")
+    if isinstance(text, (bytes, bytearray, memoryview)):
+        return bytes(text)
+    raise TypeError(f"a text is a str or bytes, not {type(text).__name__}")
 
 
 def _answered(answer, text):
@@ -295,14 +316,20 @@ def _argument(numbers, family, text):
     return kinds[next(numbers)]()
 
 
+def _listed(context, field):
+    """The entries of a context's field: names, or pairs, which may be given as a mapping. A str is no list of its letters."""
+    entries = getattr(context, field)
+    if isinstance(entries, (str, bytes, bytearray)):
+        raise TypeError(f"{field} is a list, not {type(entries).__name__}: [{entries!r}]?")
+    return list(entries.items() if hasattr(entries, "items") else entries or ())
+
+
 class _Names:
     """A context as the call takes it: a block of name bytes, and one run of numbers."""
 
     def __init__(self, context):
-        pairs = lambda entries: list(entries.items() if hasattr(entries, "items") else entries or ())
-        kinds = {"continuous": 0, "categorical": 1}
-        self.parameters, self.iiv, self.columns = list(context.parameters), list(context.iiv), list(context.columns)
-        bindings, declared = pairs(context.template), pairs(context.covariates)
+        self.parameters, self.iiv, self.columns = (_listed(context, field) for field in ("parameters", "iiv", "columns"))
+        bindings, declared = _listed(context, "template"), _listed(context, "covariates")
         self.covariates = self.columns if context.covariates is None else [name for name, _ in declared]
         self.block, self.numbers = bytearray(), [len(self.parameters), len(self.iiv), len(bindings), len(declared), len(self.columns)]
         self.numbers += [int(context.template is not None), int(context.covariates is not None)]
@@ -310,7 +337,9 @@ class _Names:
             self.put(name)
         for name, kind in declared:
             self.put(name)
-            self.numbers.append(kinds[kind])
+            if kind not in KINDS:
+                raise ValueError(f"the kind of the covariate {name!r} is one of {', '.join(KINDS)}, not {kind!r}")
+            self.numbers.append(KINDS.index(kind))
         for name in self.columns:
             self.put(name)
 

@@ -1,6 +1,9 @@
 """Known answers of dumachik.py. usage: python3 python/test_dumachik.py (after tools/shared-library); its last line is `N passed, M failed`."""
+import copy
 import doctest
+import multiprocessing
 import pathlib
+import pickle
 import sys
 
 sys.path.insert(0, str(pathlib.Path(__file__).resolve().parent))
@@ -39,6 +42,36 @@ check("the module's examples", doctest.testmod(dumachik).failed, 0)
 check("count", [dumachik.count(text) for text in ("", "LAGTIME(ON);;\n ABSORPTION(*) # é", b"# \xff")], [0, 2, 0])
 check("render", dumachik.render("let(S, [WT]); lagtime([ON,on])\nIIV?(@S, *)"), "LET(S,WT);LAGTIME(ON);IIV?(@S,*)")
 check("render, empty", dumachik.render(" # none"), "")
+
+
+
+def raised(what, call, kind):
+    """That a call raises an error of a kind, and that it says so in words."""
+    try:
+        check(what, call(), kind)
+    except kind as error:
+        check(what, len(str(error)) > 10, True)
+
+
+raised("a number is no text", lambda: dumachik.count(0), TypeError)
+raised("a str is no list of names", lambda: dumachik.resolve("", Context("CL")), TypeError)
+raised("a str is no list of IIV parameters", lambda: dumachik.resolve("", Context(["CL"], iiv="CL")), TypeError)
+raised("a kind that is none", lambda: dumachik.resolve("", Context(["CL"], covariates={"WT": "continous"})), ValueError)
+check("a symbol as it is written", [str(Symbol("PK")), Symbol("PK") == "PK", Symbol("PK") == Symbol("PK")], ["@PK", False, True])
+
+
+def refusal_of(text):
+    try:
+        return dumachik.render(text)
+    except Refusal as refusal:
+        return refusal
+
+
+first = refusal_of("LAGTIME(ON)\nFOO(1)")
+for what, second in (("copied", copy.copy(first)), ("pickled", pickle.loads(pickle.dumps(first)))):
+    check(f"a refusal that is {what}", (str(second), vars(second)), (str(first), vars(first)))
+with multiprocessing.Pool(1) as pool:
+    refused("a refusal from another process", lambda: pool.map(dumachik.render, ["FOO(1)"]), 6, 0, 1, 1, None)
 
 SPACES = {
     "ABSORPTION([FO,SEQ-ZO-FO])": Statement("ABSORPTION", False, (("FO", "SEQ-ZO-FO"),)),
