@@ -1,24 +1,20 @@
 -- The entries of a list, written one after the other: the numbers of those that are left.
 -- Assumes nothing.
-use mathlib.Core.Path.{_≡_, refl, _∙_, ap, sym}
+use mathlib.Core.Path.{_≡_, refl, _∙_, ap}
 use mathlib.Core.Bool.{true}
 use mathlib.Core.List.{List, [], _∷_, _++_, map}
-use Prim.Native.Nat.{ℕ, suc, _-_, _<_, min}
-use native.Mathlib.Omega.{arith}
-use lib.ListN.{length, drop, length-take, length-drop}
-use Rattle.tokens.specs.Token.{Tokens}
+use Prim.Native.Nat.{ℕ, _-_, _<_}
+use lib.ListN.{length}
 use Rattle.reading.specs.Statement.{Item}
 use Rattle.canonical.specs.Numbers.{pairsNumbers, itemsNumbers}
 use Rattle.read_forms.specs.declared.Items.{Items}
-use Rattle.read_forms.specs.declared.Name.{Name}
-use Rattle.read_forms.specs.Items.{tokensFrom, nameIn, rest, entries, listed, itemsIn}
+use Rattle.read_forms.specs.Items.{tokensFrom, entries, listed, itemsIn}
 use Rattle.read_forms.specs.Forms.{valuesIn}
 use Rattle.read_forms.specs.Fits.{Listed}
+use Rattle.read_forms.proofs.Entries.{entries-next, listed-next, entries-length}
 use Rattle.read_forms.proofs.Lists.{items-are}
-use Rattle.read_arguments.proofs.Entries.{entries-length}
 use Rattle.read_checks.specs.declared.Entry as checked
-use Rattle.read_checks.specs.Answers.{entryIn, EntryHere}
-use Rattle.read_checks.proofs.Entries.{entries-more, listed-more}
+use Rattle.read_checks.specs.Answers.{entryIn, NextEntry}
 use Rattle.print_writing.specs.Written.{Written}
 use Rattle.print_writing.proofs.Going.{Going, told, further, no-more}
 use Rattle.numbers_statement.specs.declared.Entry.{Entry}
@@ -56,35 +52,17 @@ module _ {e : Entry} {s before : List ℕ} {at : ℕ} {all now : List ℕ} {next
   unfolding entries
   none-left h = no-more (told (ap (λ (k : ℕ). entriesNumbers e (entries k (tokensFrom s o))) h) (g .under-way))
 
-  module _ (k : 0 < n) where
-    one-less : suc (n - 1) ≡ n
-    one-less = omega arith
+  -- there is an entry, and the others are read from its cursor
+  module _ (k : 0 < n) {i : checked.Entry} (h : NextEntry s o i) where
+    abbrev others : List ℕ
+    others = entriesNumbers e (entries (n - 1) (tokensFrom s (i .next .at)))
 
-    -- there is an entry, and the others stand behind it and the token after it
-    pub entry-left : listed 1 (tokensFrom s o) ≡ true
-    entry-left = listed-more (n - 1) (tokensFrom s o) (rw one-less (g .entered)) .0
+    at-entry : Going before at all now next (entryNumbers e (entryIn s i) ++ others)
+    at-entry = told (ap (entriesNumbers e) (entries-next k (h .here))) (g .under-way)
 
-    abbrev others : Tokens
-    others = rest (rest (tokensFrom s o))
+    pub entry-ready : Ready at all → Ready next (entryNumbers e (entryIn s i))
+    entry-ready r = ready-first (entryNumbers e (entryIn s i)) others r at-entry
 
-    others-listed : listed (n - 1) others ≡ true
-    others-listed = listed-more (n - 1) (tokensFrom s o) (rw one-less (g .entered)) .1
-
-    module _ {i : checked.Entry} (h : EntryHere s o i) where
-      at-entry : Going before at all now next (entryNumbers e (entryIn s i) ++ entriesNumbers e (entries (n - 1) others))
-      at-entry = told (ap (entriesNumbers e) (rw one-less at (entries-more (n - 1) (tokensFrom s o) (entryIn s i) (h .entry)))) (g .under-way)
-
-      pub entry-ready : Ready at all → Ready next (entryNumbers e (entryIn s i))
-      entry-ready r = ready-first (entryNumbers e (entryIn s i)) (entriesNumbers e (entries (n - 1) others)) r at-entry
-
-      pub entry-put :
-          {now' : List ℕ} {next' p : ℕ}
-          → Written now next (entryNumbers e (entryIn s i)) now' next'
-          → rest (tokensFrom s (i .next .at)) ≡ tokensFrom s p
-          → Left e s before at all now' next' (n - 1) p
-      entry-put {p = p} w b =
-          let c : others ≡ tokensFrom s p = ap rest (h .behind) ∙ b in
-          record {
-            entered = rw c at others-listed;
-            under-way = told (ap (λ (ts : Tokens). entriesNumbers e (entries (n - 1) ts)) c) (further at-entry w);
-          }
+    pub entry-put :
+        {now' : List ℕ} {next' : ℕ} → Written now next (entryNumbers e (entryIn s i)) now' next' → Left e s before at all now' next' (n - 1) (i .next .at)
+    entry-put w = record { entered = listed-next k (h .here) (g .entered); under-way = further at-entry w }

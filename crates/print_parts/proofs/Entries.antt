@@ -11,13 +11,12 @@ use Rattle.tokens.specs.Spelling.{spell, spellAll}
 use Rattle.reading.specs.Statement.{Item}
 use Rattle.canonical.specs.Canonical.{entryShapes}
 use Rattle.read_forms.specs.declared.Items.{Items}
-use Rattle.read_forms.specs.Items.{tokensFrom, nameIn, rest, entries, listed, itemsIn}
+use Rattle.read_forms.specs.Items.{tokensFrom, nameIn, entries, listed, itemsIn}
 use Rattle.read_forms.specs.Fits.{Listed}
+use Rattle.read_forms.proofs.Entries.{entries-next, listed-next, entries-length}
 use Rattle.read_forms.proofs.Lists.{items-are}
-use Rattle.read_arguments.proofs.Entries.{entries-length}
 use Rattle.read_checks.specs.declared.Entry as checked
-use Rattle.read_checks.specs.Answers.{entryIn, EntryHere}
-use Rattle.read_checks.proofs.Entries.{entries-more, listed-more}
+use Rattle.read_checks.specs.Answers.{NextEntry}
 use Rattle.print_parts.specs.declared.Entry.{Entry}
 use Rattle.print_parts.specs.Parts.{shapeAs, shapesAs, behindEntry}
 use Rattle.print_writing.specs.Written.{Room, Written}
@@ -55,52 +54,36 @@ module _ {e : Entry} {s before : List ℕ} {at : ℕ} {all now : List ℕ} {next
   pub none-left : n ≡ 0 → Written before at all now next
   none-left h = no-more (told (no-entries e n (tokensFrom s o) h) (g .under-way))
 
-  module _ (k : 0 < n) where
-    one-less : suc (n - 1) ≡ n
-    one-less = omega arith
-
-    -- there is an entry, and the others stand behind it and the token after it
-    pub entry-left : listed 1 (tokensFrom s o) ≡ true
-    entry-left = listed-more (n - 1) (tokensFrom s o) (rw one-less (g .entered)) .0
-
+  -- there is an entry, and the others are read from its cursor
+  module _ (k : 0 < n) {i : checked.Entry} (h : NextEntry s o i) where
     abbrev others : Tokens
-    others = rest (rest (tokensFrom s o))
+    others = tokensFrom s (i .next .at)
 
     others-listed : listed (n - 1) others ≡ true
-    others-listed = listed-more (n - 1) (tokensFrom s o) (rw one-less (g .entered)) .1
+    others-listed = listed-next k (h .here) (g .entered)
 
-    module _ {i : checked.Entry} (h : EntryHere s o i) where
-      abbrev first : List ℕ
-      first = spell (shapeAs e (nameIn s (i .name)))
+    abbrev first : List ℕ
+    first = spell (shapeAs e (nameIn s (i .name)))
 
-      -- its bytes, what stands behind it, and those of the others
-      entry-by-entry : entriesOf e n (tokensFrom s o) ≡ first ++ (behindEntry n ++ entriesOf e (n - 1) others)
-      entry-by-entry =
-          let xs = shapesAs e (entries (n - 1) others) in
-          ap (λ (is : List Item). spellAll (entryShapes (shapesAs e is)))
-          (rw one-less at (entries-more (n - 1) (tokensFrom s o) (entryIn s i) (h .entry)))
-          ∙ entry-first (shapeAs e (nameIn s (i .name))) xs
-          ∙ ap (λ (m : ℕ). first ++ (behindEntry m ++ spellAll (entryShapes xs)))
-          (ap suc (entries-many e (n - 1) others others-listed) ∙ one-less)
+    -- its bytes, what stands behind it, and those of the others
+    entry-by-entry : entriesOf e n (tokensFrom s o) ≡ first ++ (behindEntry n ++ entriesOf e (n - 1) others)
+    entry-by-entry =
+        let xs = shapesAs e (entries (n - 1) others) in
+        let m : suc (length xs) ≡ n = omega (arith, entries-many e (n - 1) others others-listed) in
+        ap (λ (is : List Item). spellAll (entryShapes (shapesAs e is))) (entries-next k (h .here))
+        ∙ entry-first (shapeAs e (nameIn s (i .name))) xs
+        ∙ ap (λ (m : ℕ). first ++ (behindEntry m ++ spellAll (entryShapes xs))) m
 
-      at-entry : Going before at all now next (first ++ (behindEntry n ++ entriesOf e (n - 1) others))
-      at-entry = told entry-by-entry (g .under-way)
+    at-entry : Going before at all now next (first ++ (behindEntry n ++ entriesOf e (n - 1) others))
+    at-entry = told entry-by-entry (g .under-way)
 
-      pub entry-room : Room at all → Room next (spell (shapeAs e (nameIn s (i .name))))
-      entry-room r = room-first first (behindEntry n ++ entriesOf e (n - 1) others) r at-entry
+    pub entry-room : Room at all → Room next (spell (shapeAs e (nameIn s (i .name))))
+    entry-room r = room-first first (behindEntry n ++ entriesOf e (n - 1) others) r at-entry
 
-      module _ {now' : List ℕ} {next' : ℕ} (w : Written now next (spell (shapeAs e (nameIn s (i .name)))) now' next') where
-        pub comma-room : Room at all → Room next' (behindEntry n)
-        comma-room r = room-first (behindEntry n) (entriesOf e (n - 1) others) r (further at-entry w)
+    module _ {now' : List ℕ} {next' : ℕ} (w : Written now next (spell (shapeAs e (nameIn s (i .name)))) now' next') where
+      pub comma-room : Room at all → Room next' (behindEntry n)
+      comma-room r = room-first (behindEntry n) (entriesOf e (n - 1) others) r (further at-entry w)
 
-        pub entry-put :
-            {now'' : List ℕ} {next'' p : ℕ}
-            → Written now' next' (behindEntry n) now'' next''
-            → rest (tokensFrom s (i .next .at)) ≡ tokensFrom s p
-            → Left e s before at all now'' next'' (n - 1) p
-        entry-put {p = p} v b =
-            let c : others ≡ tokensFrom s p = ap rest (h .behind) ∙ b in
-            record {
-              entered = rw c at others-listed;
-              under-way = told (ap (entriesOf e (n - 1)) c) (further (further at-entry w) v);
-            }
+      pub entry-put :
+          {now'' : List ℕ} {next'' : ℕ} → Written now' next' (behindEntry n) now'' next'' → Left e s before at all now'' next'' (n - 1) (i .next .at)
+      entry-put v = record { entered = others-listed; under-way = further (further at-entry w) v }

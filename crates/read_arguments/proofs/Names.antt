@@ -5,11 +5,11 @@ use mathlib.Core.List.{List}
 use Prim.Native.Nat.{ℕ}
 use native.Mathlib.Omega.{arith}
 use Rattle.tokens.specs.declared.Token as lexer
-use Rattle.tokens.specs.Token.{Shape, Token, word, number}
+use Rattle.tokens.specs.Token.{Shape, word, number}
 use Rattle.reading.specs.Statement.{aWord, aNumber}
 use Rattle.reading.specs.Syntax.{name}
 use Rattle.read_forms.specs.declared.Name.{Name}
-use Rattle.read_forms.specs.Items.{nameIn, entries, listed}
+use Rattle.read_forms.specs.Items.{nameIn, entryAhead, entries, listed}
 use Rattle.read_forms.specs.Fits.{InText, Stands}
 use Rattle.tokens.proofs.Steps.{token}
 use Rattle.tokens.proofs.Views.{part, Reads}
@@ -25,7 +25,7 @@ module _ (s : List ℕ) (t : lexer.Token) {n : Name} (e : n ≡ nameOf t) where
 
   pub word-stands :
       {o : ℕ} → Reads s o (token (t .start) (word (part s (t .start) (t .next .at)))) (t .next .at) → Stands s aWord n
-  unfolding entries listed
+  unfolding entries listed entryAhead
   word-stands r =
       subst (Stands s aWord) (sym e)
       (record {
@@ -36,7 +36,7 @@ module _ (s : List ℕ) (t : lexer.Token) {n : Name} (e : n ≡ nameOf t) where
 
   pub number-stands :
       {o : ℕ} → Reads s o (token (t .start) (number (part s (t .start) (t .next .at)))) (t .next .at) → Stands s aNumber n
-  unfolding entries listed
+  unfolding entries listed entryAhead
   number-stands r =
       subst (Stands s aNumber) (sym e)
       (record {

@@ -9,7 +9,7 @@ ghost use Rattle.reading.specs.Argument.{rangeOf};
 ghost use Rattle.reading.specs.Argument.{Arg as Arg·spec};
 ghost use Rattle.reading.specs.Syntax.{Call, atSign, numberRead, arrayOpen, itemRead, argumentRead, rangeRead};
 ghost use Rattle.reading.specs.Syntax.{argument as argument·state, item as item·state};
-ghost use Rattle.read_forms.specs.Items.{tokensFrom, nameIn, entries, rest};
+ghost use Rattle.read_forms.specs.Items.{tokensFrom, nameIn, entries, afterEntries, rest};
 ghost use Rattle.read_forms.specs.Fits.{InText, Stands};
 ghost use Rattle.read_arguments.specs.Answers.{readIn, stepIn, refusalOf, nameOf, argThen, ArgFurther, entryThen, EntryFurther, EntryListed, afterThen, AfterFurther};
 use counts::Counted;
@@ -171,7 +171,7 @@ fn read_entry(text: &[u8], classes: &Classes, cur: Cursor, count: usize) -> Entr
         → readIn limit (now (text .entry)) (item·state c p items) (cur .at)
         ≡ entryThen limit (now (text .entry)) c p (items ++ entries 1 (tokensFrom (now (text .entry)) (cur .at))) r)
         ⌝ }
-    ensures { λ r. ⌜ EntryFurther (now (text .entry)) (cur .at) (rest (rest (tokensFrom (now (text .entry)) (cur .at)))) r ⌝ }
+    ensures { λ r. ⌜ EntryFurther (now (text .entry)) (cur .at) (afterEntries 1 (tokensFrom (now (text .entry)) (cur .at))) r ⌝ }
     ensures { λ r. ⌜ EntryListed (now (text .entry)) (cur .at) count r ⌝ }
 {
     let token = cur.token(text, classes);

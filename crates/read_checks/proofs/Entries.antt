@@ -1,46 +1,31 @@
--- The entries of a list that stays in the text, one after the other: what the token at an offset is as an entry, and what is left behind it.
+-- The entries of a list that stays in the text: what the token at an offset is as an entry, and what is left behind it.
 -- Assumes nothing.
-use mathlib.Core.Path.{_≡_, refl, _∙_, ap, sym}
+use mathlib.Core.Path.{_≡_, refl, _∙_, ap, sym, subst}
 use mathlib.Core.Bool.{true, false≢true}
 use mathlib.Core.List.{List, [], _∷_}
-use Prim.Native.Nat.{ℕ, zero, suc, _-_, _≤_}
+use Prim.Native.Nat.{ℕ, _-_, _≤_}
 use native.Mathlib.Omega.{arith}
-use Rattle.labels.proofs.Words.{halves}
-use Rattle.tokens.specs.Token.{Tokens, finish, bad, _▸_}
+use lib.ListN.{length}
+use Rattle.tokens.specs.Token.{Shape, word, number, mark, Tokens, finish, bad, _▸_}
+use Rattle.tokens.specs.declared.Lexed.{Lexed}
+use Rattle.tokens.specs.declared.Lexed.the-variants as lexed
 use Rattle.tokens.specs.declared.Token as kinds
-use Rattle.tokens.proofs.Steps.{at-end}
-use Rattle.tokens.proofs.Views.{Known, aWord, aNumber, aMark, aStray, theEnd}
+use Rattle.tokens.specs.Next.{first, byKind, tokenAt}
+use Rattle.tokens.proofs.Steps.{token, at-end}
+use Rattle.tokens.proofs.Views.{Reads, Tells, told, Known, aWord, aNumber, aMark, aStray, theEnd, known}
 use Rattle.reading.specs.Statement.{Item}
 use Rattle.read_forms.specs.declared.Items.{Items}
-use Rattle.read_forms.specs.Items.{tokensFrom, entries, rest, itemsIn, isEntry, listed}
+use Rattle.read_forms.specs.Items.{tokensFrom, rest, anEntry, byEntry, entryAs, entryAhead, Entered, entries, itemsIn, listed}
 use Rattle.read_forms.specs.Fits.{Listed}
+use Rattle.read_forms.proofs.Entries.{entries-length}
 use Rattle.read_forms.proofs.Lists.{items-are}
 use Rattle.read_checks.specs.declared.Entry as checked
-use Rattle.read_checks.specs.Answers.{kindOf, EntryHere}
-
--- the first entry, and then those behind it and the token after it
-pub entries-more : (n : ℕ) (ts : Tokens) (i : Item) → entries 1 ts ≡ i ∷ [] → entries (suc n) ts ≡ i ∷ entries n (rest (rest ts))
-unfolding entries
-entries-more n finish i e = cc
-entries-more n (bad o) i e = cc
-entries-more n (t ▸ ts) i e = cc
-
-pub listed-more : (n : ℕ) (ts : Tokens) → listed (suc n) ts ≡ true → (listed 1 ts ≡ true) × (listed n (rest (rest ts)) ≡ true)
-unfolding listed
-listed-more n finish h = absurd (false≢true h)
-listed-more n (bad o) h = absurd (false≢true h)
-listed-more n (t ▸ ts) h = let p = halves (isEntry (t .shape)) (listed n (rest ts)) h in (simp (p .0), p .1)
+use Rattle.read_checks.specs.Answers.{kindOf, entryIn, NextEntry, EntryHere}
 
 -- a list that has entries is not empty
-entries-some : (n : ℕ) (ts : Tokens) → listed n ts ≡ true → (n ≡ 0 → ⊥) → entries n ts ≡ [] → ⊥
-unfolding entries listed
-entries-some zero ts h k e = k refl
-entries-some (suc n) finish h k e = false≢true h
-entries-some (suc n) (bad o) h k e = false≢true h
-entries-some (suc n) (t ▸ ts) h k e = let z : _≡_ {A = ℕ} 0 1 = cc in omega arith
-
 pub listed-some : (s : List ℕ) (is : Items) → Listed s is → (is .count ≡ 0 → ⊥) → itemsIn s is ≡ [] → ⊥
-listed-some s is l k e = entries-some (is .count) (tokensFrom s (is .first .at)) (l .are) k (sym (items-are s is l) ∙ e)
+listed-some s is l k e =
+    k (sym (entries-length (is .count) (tokensFrom s (is .first .at)) (l .are)) ∙ ap length (sym (items-are s is l) ∙ e))
 
 -- the tokens after the one at an offset start where its answer says
 pub behind : (s : List ℕ) (o : ℕ) (t : kinds.Token) → Known s o t → rest (tokensFrom s o) ≡ tokensFrom s (t .next .at)
@@ -50,16 +35,76 @@ behind s o t (aMark e r) = ap rest (r .tokens)
 behind s o t (aStray e f g) = ap rest f ∙ sym g
 behind s o t (theEnd e f a b) = ap rest f ∙ sym (at-end s (t .next .at) (omega arith))
 
--- the token at an offset as an entry of a list
+-- and that is no earlier, whatever stands there
+further : (s : List ℕ) (o : ℕ) (l : Lexed) → o ≤ length s → Tells s o l → o ≤ byKind (length s) l .next .at
+unfolding byKind
+further s o (lexed.Word a c) h r = omega (arith, r .ahead, r .wide)
+further s o (lexed.Number a c) h r = omega (arith, r .ahead, r .wide)
+further s o (lexed.Mark m a c) h r = omega (arith, r .0 .ahead, r .0 .wide)
+further s o (lexed.Bad e) h r = r .2
+further s o lexed.End h r = h
+
+-- the token at an offset as an entry of a list, and the token behind it, which is passed
+abbrev pub entryBy : kinds.Token → kinds.Token → checked.Entry
+entryBy t u = record { kind = kindOf (t .kind); name = record { offset = t .start; length = t .next .at - t .start }; next = u .next }
+
+-- it ends behind its start, and is what `next_entry` says it is
+pub record Next (s : List ℕ) (o : ℕ) (t u : kinds.Token) : Type 0 where
+  pub wide : t .start ≤ t .next .at
+  pub entry : NextEntry s o (entryBy t u)
+
+module _ (s : List ℕ) (o : ℕ) (t u : kinds.Token) (q : u ≡ tokenAt s (t .next .at)) where
+  next-by :
+      {x : Shape}
+      → ((ts : Tokens) → entryAs (t .start) x ts ≡ anEntry (entryIn s (entryBy t u)) ts)
+      → Reads s o (token (t .start) x) (t .next .at)
+      → Next s o t u
+  unfolding entryAhead
+  next-by f r =
+      let n = t .next .at in
+      let m : n ≤ u .next .at = subst (λ (v : kinds.Token). n ≤ v .next .at) (sym q) (further s n (first (tokensFrom s n)) (r .within) (told s n _ refl)) in
+      record {
+        wide = omega (arith, r .wide);
+        entry = record {
+          inside = omega (arith, r .wide, r .within);
+          here = record {
+            ahead = ap entryAhead (r .tokens) ∙ f (rest (tokensFrom s n)) ∙ ap (anEntry (entryIn s (entryBy t u))) (behind s n u (known s n u q));
+          };
+          ahead = r .ahead;
+          behind = omega (arith, r .wide, m);
+        };
+      }
+
+  pub next-here : listed 1 (tokensFrom s o) ≡ true → Known s o t → Next s o t u
+  unfolding listed entryAhead
+  next-here h (aWord e r) = next-by (λ ts. simp e) r
+  next-here h (aNumber e r) = next-by (λ ts. simp e) r
+  next-here h (aMark e r) = absurd (false≢true (sym (ap (listed 1) (r .tokens)) ∙ h))
+  next-here h (aStray e f g) = absurd (false≢true (sym (ap (listed 1) f) ∙ h))
+  next-here h (theEnd e f a b) = absurd (false≢true (sym (ap (listed 1) f) ∙ h))
+
+-- an entry can be read wherever one stands
+pub record EntryFrom (s : List ℕ) (o : ℕ) : Type 0 where
+  pub found : checked.Entry
+  pub next : NextEntry s o found
+
+pub entry-from : (s : List ℕ) (o : ℕ) → listed 1 (tokensFrom s o) ≡ true → EntryFrom s o
+entry-from s o h =
+    let t = tokenAt s o in
+    let u = tokenAt s (t .next .at) in
+    record { found = entryBy t u; next = next-here s o t u refl h (known s o t refl) .entry }
+
+-- What follows is for an entry and the token behind it read by two calls, as resolve_operands does.
+
 abbrev pub entryOf : kinds.Token → checked.Entry
-entryOf t = record { kind = kindOf (t .kind); name = record { offset = t .start; length = t .next .at - t .start }; next = t .next }
+entryOf t = entryBy t t
 
 pub record Entry (s : List ℕ) (o : ℕ) (t : kinds.Token) : Type 0 where
   pub ahead : t .start ≤ t .next .at
   pub here : EntryHere s o (entryOf t)
 
 pub entry-here : (s : List ℕ) (o : ℕ) (t : kinds.Token) → listed 1 (tokensFrom s o) ≡ true → Known s o t → Entry s o t
-unfolding entries listed
+unfolding entries listed entryAhead
 entry-here s o t h (aWord e r) =
     record {
       ahead = omega arith;
@@ -73,3 +118,14 @@ entry-here s o t h (aNumber e r) =
 entry-here s o t h (aMark e r) = absurd (false≢true (sym (ap (listed 1) (r .tokens)) ∙ h))
 entry-here s o t h (aStray e f g) = absurd (false≢true (sym (ap (listed 1) f) ∙ h))
 entry-here s o t h (theEnd e f a b) = absurd (false≢true (sym (ap (listed 1) f) ∙ h))
+
+pub one-entered : (ts us vs : Tokens) (i : Item) → entries 1 ts ≡ i ∷ [] → rest ts ≡ us → rest us ≡ vs → Entered ts i vs
+unfolding entries entryAhead
+one-entered finish us vs i e f g = let z : _≡_ {A = ℕ} 0 1 = cc in absurd (omega arith)
+one-entered (bad o) us vs i e f g = let z : _≡_ {A = ℕ} 0 1 = cc in absurd (omega arith)
+one-entered (t ▸ ts) us vs i e f g = record { ahead = by-shape (t .shape) e }
+  where
+    by-shape : (x : Shape) → byEntry (entryAs (t .place) x (rest ts)) [] (λ j ws. j ∷ []) ≡ i ∷ [] → entryAs (t .place) x (rest ts) ≡ anEntry i vs
+    by-shape (word w) k = cc
+    by-shape (number w) k = cc
+    by-shape (mark m) k = cc

@@ -4,15 +4,11 @@ use mathlib.Core.Path.{_≡_, refl, _∙_, ap, sym}
 use mathlib.Core.Bool.{Bool, true, false, cond, _&&_, true≢false}
 use mathlib.Core.List.{List, [], _∷_}
 use mathlib.Core.Option.{Option, some, none}
-use Prim.Native.Nat.{ℕ, suc, _-_, _<_}
-use native.Mathlib.Omega.{arith}
+use Prim.Native.Nat.{ℕ, _-_, _<_}
 use lib.Dec.{leb}
 use Rattle.counts.specs.declared.Counted.the-variants as count
 use Rattle.counts.specs.Count.{countOf, value, whole}
-use Rattle.labels.specs.declared.Family.{Family}
 use Rattle.labels.specs.declared.Found.the-variants.{Place, Nothing}
-use Rattle.labels.specs.Word.{find}
-use Rattle.labels.specs.Label.{labelsOf}
 use Rattle.labels.specs.Table.{foundAs}
 use Rattle.reading.specs.Statement.{aWord, aNumber, Item}
 use Rattle.reading.specs.Answer.{Answer, accepted, refused, _>>=_}
@@ -20,13 +16,13 @@ use Rattle.reading.specs.Argument.{countAt, countList}
 use Rattle.read_forms.specs.declared.Refusal.{Refusal}
 use Rattle.read_forms.specs.declared.Kind as kinds
 use Rattle.read_forms.specs.declared.Kind.the-variants as kind
-use Rattle.read_forms.specs.Items.{tokensFrom, nameIn, kindAs, entries, rest, listed}
-use Rattle.read_forms.specs.Forms.{placesIn, countOr0, valuesIn}
+use Rattle.read_forms.specs.Items.{tokensFrom, nameIn, kindAs, entries, listed}
+use Rattle.read_forms.specs.Forms.{countOr0, valuesIn}
+use Rattle.read_forms.proofs.Entries.{entries-next, listed-next}
 use Rattle.read_checks.specs.declared.Checked.{Checked}
 use Rattle.read_checks.specs.declared.Checked.the-variants.{Fine, Refused}
 use Rattle.read_checks.specs.declared.Entry as checked
-use Rattle.read_checks.specs.Answers.{checkedAs, refusedBy, ofWord, entryIn, EntryHere}
-use Rattle.read_checks.proofs.Entries.{entries-more, listed-more}
+use Rattle.read_checks.specs.Answers.{checkedAs, refusedBy, ofWord, entryIn, NextEntry}
 
 -- a list, judged by `j`, is in order with the values `v`, or is refused
 abbrev pub Judged : (List Item → Answer (List ℕ)) → (List Item → List ℕ) → List Item → Checked → Type 0
@@ -43,38 +39,24 @@ module _ {j : List Item → Answer (List ℕ)} {v : List Item → List ℕ} {s :
   unfolding entries
   left-none e h = l .whole Fine (rw e h)
 
-  module _ (k : 0 < n) where
-    one-less : suc (n - 1) ≡ n
-    one-less = omega arith
+  -- there is an entry
+  module _ (k : 0 < n) {i : checked.Entry} (h : NextEntry s o i) where
+    -- that is refused
+    pub left-refused :
+        (r : Refusal)
+        → ((is : List Item) → j (entryIn s i ∷ is) ≡ refusedBy r)
+        → Judged j v (entries n₀ (tokensFrom s o₀)) (Refused r)
+    unfolding checkedAs
+    left-refused r f = l .whole (Refused r) (ap j (entries-next k (h .here)) ∙ f (entries (n - 1) (tokensFrom s (i .next .at))))
 
-    -- there is an entry
-    pub left-one : listed 1 (tokensFrom s o) ≡ true
-    left-one = listed-more (n - 1) (tokensFrom s o) (rw one-less (l .entered)) .0
-
-    module _ {i : checked.Entry} (h : EntryHere s o i) where
-      these : entries n (tokensFrom s o) ≡ entryIn s i ∷ entries (n - 1) (rest (rest (tokensFrom s o)))
-      these = rw one-less at (entries-more (n - 1) (tokensFrom s o) (entryIn s i) (h .entry))
-
-      -- the entry is refused
-      pub left-refused :
-          (r : Refusal)
-          → ((is : List Item) → j (entryIn s i ∷ is) ≡ refusedBy r)
-          → Judged j v (entries n₀ (tokensFrom s o₀)) (Refused r)
-      unfolding checkedAs
-      left-refused r f = l .whole (Refused r) (ap j these ∙ f (entries (n - 1) (rest (rest (tokensFrom s o)))))
-
-      -- the entry is in order
-      pub left-next :
-          (p : ℕ)
-          → rest (tokensFrom s (i .next .at)) ≡ tokensFrom s p
-          → ((is : List Item) (r : Checked) → Judged j v is r → Judged j v (entryIn s i ∷ is) r)
-          → Left j v s n₀ o₀ (n - 1) p
-      left-next p e f =
-          let b : rest (rest (tokensFrom s o)) ≡ tokensFrom s p = ap rest (h .behind) ∙ e in
-          record {
-            entered = rw b at (listed-more (n - 1) (tokensFrom s o) (rw one-less (l .entered)) .1);
-            whole = λ r g. l .whole r (rw (these, b) (f (entries (n - 1) (tokensFrom s p)) r g));
-          }
+    -- that is in order
+    pub left-next :
+        ((is : List Item) (r : Checked) → Judged j v is r → Judged j v (entryIn s i ∷ is) r) → Left j v s n₀ o₀ (n - 1) (i .next .at)
+    left-next f =
+        record {
+          entered = listed-next k (h .here) (l .entered);
+          whole = λ r g. l .whole r (rw (entries-next k (h .here)) (f (entries (n - 1) (tokensFrom s (i .next .at))) r g));
+        }
 
 -- one value more in front of those of an answer
 pub checked-more :

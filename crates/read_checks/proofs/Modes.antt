@@ -4,7 +4,7 @@ use mathlib.Core.Path.{_≡_, refl, _∙_, ap, sym}
 use mathlib.Core.Bool.{true}
 use mathlib.Core.List.{List, [], _∷_, _++_, append-assoc, append-nil}
 use mathlib.Core.Option.{some, none}
-use Prim.Native.Nat.{ℕ, suc, _-_, _≤_, _<_}
+use Prim.Native.Nat.{ℕ, _-_, _≤_, _<_}
 use native.Mathlib.Omega.{arith}
 use borrow.Author.Tests.{lt-ltb}
 use lib.ListN.{length}
@@ -15,7 +15,7 @@ use Rattle.labels.specs.Word.{find}
 use Rattle.labels.specs.Label.{labelsOf}
 use Rattle.labels.proofs.Families.{few-labels}
 use Rattle.labels.proofs.Finding.{found-at}
-use Rattle.reading.specs.Statement.{Item, modes}
+use Rattle.reading.specs.Statement.{modes}
 use Rattle.reading.specs.Answer.{Answer, accepted, refused, _>>=_}
 use Rattle.reading.specs.Argument.{firsts, modeList}
 use Rattle.reading_laws.specs.WellFormed.{isPlace}
@@ -23,10 +23,10 @@ use Rattle.reading_laws.proofs.Places.{both, firsts-all, firsts-once}
 use Rattle.read_packs.specs.Packs.{places, Snug, Joined}
 use Rattle.read_packs.proofs.Packed.{no-place}
 use Rattle.read_packs.proofs.Few.{firsts-more, few}
-use Rattle.read_forms.specs.Items.{tokensFrom, nameIn, entries, rest, listed}
+use Rattle.read_forms.specs.Items.{tokensFrom, nameIn, entries, listed}
+use Rattle.read_forms.proofs.Entries.{entries-next, listed-next}
 use Rattle.read_checks.specs.declared.Entry as checked
-use Rattle.read_checks.specs.Answers.{entryIn, EntryHere, modesListed}
-use Rattle.read_checks.proofs.Entries.{entries-more, listed-more}
+use Rattle.read_checks.specs.Answers.{NextEntry, modesListed}
 
 pub found-within : (f : Family) (w : List ℕ) (m : ℕ) → find w (labelsOf f) ≡ some m → m < length (labelsOf f)
 found-within f w m e = found-at w (labelsOf f) m e .within
@@ -76,38 +76,26 @@ module _ {f : Family} {s : List ℕ} {n₀ o₀ n o packed : ℕ} (l : Sofar f s
   unfolding entries modeList
   sofar-none e = rw (l .whole, e, l .own, append-nil (l .done))
 
-  module _ (k : 0 < n) where
-    one-less : suc (n - 1) ≡ n
-    one-less = omega arith
+  -- there is an entry
+  module _ (k : 0 < n) {i : checked.Entry} (h : NextEntry s o i) where
+    -- that is no mode
+    pub sofar-refused :
+        find (nameIn s (i .name) .spelling) (labelsOf f) ≡ none
+        → refused 10 (i .name .offset) ≡ modesListed f (entries n₀ (tokensFrom s o₀))
+    unfolding modeList
+    sofar-refused e = rw (l .whole, entries-next k (h .here), e)
 
-    pub sofar-one : listed 1 (tokensFrom s o) ≡ true
-    sofar-one = listed-more (n - 1) (tokensFrom s o) (rw one-less (l .entered)) .0
-
-    module _ {i : checked.Entry} (h : EntryHere s o i) where
-      these : entries n (tokensFrom s o) ≡ entryIn s i ∷ entries (n - 1) (rest (rest (tokensFrom s o)))
-      these = rw one-less at (entries-more (n - 1) (tokensFrom s o) (entryIn s i) (h .entry))
-
-      pub sofar-refused :
-          find (nameIn s (i .name) .spelling) (labelsOf f) ≡ none
-          → refused 10 (i .name .offset) ≡ modesListed f (entries n₀ (tokensFrom s o₀))
-      unfolding modeList
-      sofar-refused e = rw (l .whole, these, e)
-
-      pub sofar-next :
-          (m p r : ℕ)
-          → find (nameIn s (i .name) .spelling) (labelsOf f) ≡ some m
-          → rest (tokensFrom s (i .next .at)) ≡ tokensFrom s p
-          → Joined packed m r
-          → Sofar f s n₀ o₀ (n - 1) p r
-      unfolding modeList
-      sofar-next m p r e t j =
-          let b : rest (rest (tokensFrom s o)) ≡ tokensFrom s p = ap rest (h .behind) ∙ t in
-          let w = found-within f (nameIn s (i .name) .spelling) m e in
-          record {
-            entered = rw b at (listed-more (n - 1) (tokensFrom s o) (rw one-less (l .entered)) .1);
-            done = l .done ++ m ∷ [];
-            own = j .all ∙ rw (l .own) (sym (firsts-more (l .done) m));
-            within = all-more f m (l .done) (lt-ltb m (length (labelsOf f)) w) (l .within);
-            snug = j .snug;
-            whole = rw (l .whole, these, b, e) (one-done m (l .done) (modeList f (entries (n - 1) (tokensFrom s p))));
-          }
+    -- that is one
+    pub sofar-next :
+        (m r : ℕ) → find (nameIn s (i .name) .spelling) (labelsOf f) ≡ some m → Joined packed m r → Sofar f s n₀ o₀ (n - 1) (i .next .at) r
+    unfolding modeList
+    sofar-next m r e j =
+        let w = found-within f (nameIn s (i .name) .spelling) m e in
+        record {
+          entered = listed-next k (h .here) (l .entered);
+          done = l .done ++ m ∷ [];
+          own = j .all ∙ rw (l .own) (sym (firsts-more (l .done) m));
+          within = all-more f m (l .done) (lt-ltb m (length (labelsOf f)) w) (l .within);
+          snug = j .snug;
+          whole = rw (l .whole, entries-next k (h .here), e) (one-done m (l .done) (modeList f (entries (n - 1) (tokensFrom s (i .next .at)))));
+        }

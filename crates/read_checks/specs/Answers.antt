@@ -1,5 +1,5 @@
 -- What the answers of the functions that judge arguments mean, as answers of the definition of reading.
-use Prim.Native.Nat.{ℕ}
+use Prim.Native.Nat.{ℕ, _+_, _≤_}
 use mathlib.Core.Bool.{Bool, true, false, cond}
 use mathlib.Core.List.{List, [], _∷_}
 use mathlib.Core.Path.{_≡_}
@@ -12,7 +12,7 @@ use Rattle.reading.specs.Argument.{firsts, modeList}
 use Rattle.read_forms.specs.declared.Refusal.{Refusal}
 use Rattle.read_forms.specs.declared.Kind as kinds
 use Rattle.read_forms.specs.declared.Kind.the-variants as kind
-use Rattle.read_forms.specs.Items.{tokensFrom, nameIn, kindAs, entries, rest, itemsIn}
+use Rattle.read_forms.specs.Items.{tokensFrom, nameIn, kindAs, Entered, entries, rest, itemsIn}
 use Rattle.read_forms.specs.Fits.{InText}
 use Rattle.read_forms.specs.Forms.{modesIn, countsIn, operandIn, opAs}
 use Rattle.read_checks.specs.declared
@@ -79,6 +79,15 @@ ofWord kind.Number = false
 abbrev pub entryIn : List ℕ → declared.Entry.Entry → Item
 entryIn s r = record { kind = kindAs (r .kind); name = nameIn s (r .name) }
 
+-- The entry of a list that stands at an offset or after it: its name lies in the text, and what is left of the list is read from its cursor, which
+-- stands behind the name.
+pub record NextEntry (s : List ℕ) (o : ℕ) (r : declared.Entry.Entry) : Type 0 where
+  pub inside : InText s (r .name)
+  pub here : Entered (tokensFrom s o) (entryIn s r) (tokensFrom s (r .next .at))
+  pub ahead : o ≤ r .name .offset
+  pub behind : r .name .offset + r .name .length ≤ r .next .at
+
+-- the same with the cursor right behind the name
 pub record EntryHere (s : List ℕ) (o : ℕ) (r : declared.Entry.Entry) : Type 0 where
   pub inside : InText s (r .name)
   pub entry : entries 1 (tokensFrom s o) ≡ entryIn s r ∷ []

@@ -18,7 +18,7 @@ ghost use Rattle.reading.specs.Feature.{isN, operatorOf, nameOf};
 ghost use Rattle.read_forms.specs.Items.{tokensFrom, nameIn, itemsIn, listed, rest};
 ghost use Rattle.read_forms.specs.Forms.{argIn, valuesIn};
 ghost use Rattle.read_forms.specs.Fits.{InText, Listed, Stands, Fits};
-ghost use Rattle.read_checks.specs.Answers.{checkedAs, modesAs, countsAs, operandAs, itemsAs, nameAs, opReadAs, EntryHere, kindOf, ofWord, modesListed};
+ghost use Rattle.read_checks.specs.Answers.{checkedAs, modesAs, countsAs, operandAs, itemsAs, nameAs, opReadAs, NextEntry, EntryHere, kindOf, ofWord, modesListed};
 use counts::Counted;
 use labels::Family;
 use labels::Found;
@@ -71,7 +71,7 @@ pub enum OpRead {
     Refused(Refusal),
 }
 
-// An entry of a list: what it is, its name, and the cursor after it.
+// An entry of a list: what it is, its name, and the cursor from which what follows is read.
 pub struct Entry {
     pub kind: Kind,
     pub name: Name,
@@ -97,7 +97,28 @@ fn is_word(kind: Kind) -> bool
     }
 }
 
-// The entry that stands at the cursor, or after the blanks there.
+// The entry that stands at the cursor, or after the blanks there, with the cursor from which the one behind it is read: behind the `,`, or behind
+// whatever stands at the list's end. No other function that goes over a list knows how many tokens an entry has.
+pub fn next_entry(text: &[u8], classes: &Classes, cur: Cursor) -> Entry
+    requires { ⌜ (now classes ≡ classTable) × (listed 1 (tokensFrom (now text) (cur .at)) ≡ true) ⌝ }
+    ensures { λ r. ⌜ NextEntry (now (text .entry)) (cur .at) r ⌝ }
+{
+    let token = cur.token(text, classes);
+    let end = token.next;
+    let name = Name {
+        offset: token.start,
+        length: end.at - token.start,
+    };
+    let comma = end.token(text, classes);
+    let next = comma.next;
+    Entry {
+        kind: kind_of(token.kind),
+        name,
+        next,
+    }
+}
+
+// The same with the cursor right behind the entry, which `past_comma` takes on: for resolve_operands, until it reads by `next_entry`.
 pub fn entry_at(text: &[u8], classes: &Classes, cur: Cursor) -> Entry
     requires { ⌜ (now classes ≡ classTable) × (listed 1 (tokensFrom (now text) (cur .at)) ≡ true) ⌝ }
     ensures { λ r. ⌜ EntryHere (now (text .entry)) (cur .at) r ⌝ }
@@ -149,7 +170,7 @@ fn listed_modes(
     let mut cur = items.first;
     let mut packed = 0;
     while 0 < left {
-        let entry = entry_at(text, classes, cur);
+        let entry = next_entry(text, classes, cur);
         let name = entry.name;
         match mode_at(text, labels, family, name) {
             Found::Nothing => {
@@ -160,7 +181,7 @@ fn listed_modes(
             }
             Found::Place(place) => {
                 packed = read_packs::with_place(packed, place as u32);
-                cur = past_comma(text, classes, entry.next);
+                cur = entry.next;
                 left -= 1;
             }
         }
@@ -243,7 +264,7 @@ fn check_counts(text: &[u8], classes: &Classes, at: usize, items: Items, limit: 
     let mut left = items.count;
     let mut cur = items.first;
     while 0 < left {
-        let entry = entry_at(text, classes, cur);
+        let entry = next_entry(text, classes, cur);
         let kind = entry.kind;
         if is_word(kind) {
             return Checked::Refused(wrong(at));
@@ -257,7 +278,7 @@ fn check_counts(text: &[u8], classes: &Classes, at: usize, items: Items, limit: 
                 });
             }
             Counted::Count(_) => {
-                cur = past_comma(text, classes, entry.next);
+                cur = entry.next;
                 left -= 1;
             }
         }

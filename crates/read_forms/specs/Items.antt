@@ -1,7 +1,8 @@
--- The entries of a list that stays in the text: every other token from its start on, as many as there are. Between two stands a `,`.
+-- The entries of a list that stays in the text, read one after the other from its start on, as many as there are. Between two stands a `,`.
 use Prim.Native.Nat.{ℕ, zero, suc}
 use mathlib.Core.Bool.{Bool, true, false, cond, _&&_}
 use mathlib.Core.List.{List, [], _∷_}
+use mathlib.Core.Path.{_≡_}
 use lib.Dec.{leb}
 use lib.ListN.{take, drop}
 use Rattle.tokens.specs.Token.{Shape, word, number, mark, Tokens, finish, bad, _▸_}
@@ -30,42 +31,51 @@ kindAs kind.Number = aNumber
 abbrev pub itemIn : List ℕ → entry.Item → Item
 itemIn s i = record { kind = kindAs (i .kind); name = nameIn s (i .name) }
 
--- a token as an entry; a mark is none
-abbrev pub entryOf : ℕ → Shape → Item
-entryOf o (word w) = itemAs aWord o w
-entryOf o (number w) = itemAs aNumber o w
-entryOf o (mark m) = itemAs aWord o []
-
 -- the tokens after the first
 abbrev pub rest : Tokens → Tokens
 rest finish = finish
 rest (bad o) = bad o
 rest (t ▸ ts) = ts
 
+-- what stands ahead in a list: an entry, with the tokens behind it and the token after it, which is a `,` or the list's end; or no entry
+pub data Ahead : Type 0 where
+  anEntry : Item → Tokens → Ahead
+  noEntry : Ahead
+
+abbrev pub byEntry : {A : Type 0} → Ahead → A → (Item → Tokens → A) → A
+byEntry (anEntry i ts) a f = f i ts
+byEntry noEntry a f = a
+
+-- a token of a shape, with what is left behind it and the token after it
+abbrev pub entryAs : ℕ → Shape → Tokens → Ahead
+entryAs o (word w) ts = anEntry (itemAs aWord o w) ts
+entryAs o (number w) ts = anEntry (itemAs aNumber o w) ts
+entryAs o (mark m) ts = noEntry
+
+-- One entry off the front of the tokens: a word or a number. How many tokens an entry has is said here and nowhere else.
+unfoldable pub entryAhead : Tokens → Ahead
+entryAhead finish = noEntry
+entryAhead (bad o) = noEntry
+entryAhead (t ▸ ts) = entryAs (t .place) (t .shape) (rest ts)
+
+-- an entry stands ahead, and these tokens are left
+pub record Entered (ts : Tokens) (i : Item) (left : Tokens) : Type 0 where
+  pub ahead : entryAhead ts ≡ anEntry i left
+
 -- the first so many entries
 unfoldable pub entries : ℕ → Tokens → List Item
 entries zero ts = []
-entries (suc n) finish = []
-entries (suc n) (bad o) = []
-entries (suc n) (t ▸ ts) = entryOf (t .place) (t .shape) ∷ entries n (rest ts)
+entries (suc n) ts = byEntry (entryAhead ts) [] (λ i us. i ∷ entries n us)
 
 -- what comes after so many entries and the token behind each
 unfoldable pub afterEntries : ℕ → Tokens → Tokens
 afterEntries zero ts = ts
-afterEntries (suc n) ts = afterEntries n (rest (rest ts))
+afterEntries (suc n) ts = byEntry (entryAhead ts) ts (λ i us. afterEntries n us)
 
--- the first token is a word or a number
-abbrev pub isEntry : Shape → Bool
-isEntry (word w) = true
-isEntry (number w) = true
-isEntry (mark m) = false
-
--- there are so many entries, each a word or a number
+-- there are so many entries
 unfoldable pub listed : ℕ → Tokens → Bool
 listed zero ts = true
-listed (suc n) finish = false
-listed (suc n) (bad o) = false
-listed (suc n) (t ▸ ts) = isEntry (t .shape) && listed n (rest ts)
+listed (suc n) ts = byEntry (entryAhead ts) false (λ i us. listed n us)
 
 -- a list's entries in a text; a list that is none, or has over 64, has no entries
 unfoldable pub itemsIn : List ℕ → list.Items → List Item

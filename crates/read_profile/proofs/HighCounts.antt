@@ -1,7 +1,6 @@
 -- A list is searched for a count above 10, entry by entry: what is left of it tells what the whole list has. And arguments that are no counts.
 -- Assumes nothing.
-use Prim.Native.Nat.{ℕ, suc, _-_, _<_}
-use native.Mathlib.Omega.{arith}
+use Prim.Native.Nat.{ℕ, _-_, _<_}
 use mathlib.Core.Path.{_≡_, refl, _∙_, ap, sym}
 use mathlib.Core.Bool.{Bool, true, false, _||_}
 use mathlib.Core.List.{List, [], _∷_}
@@ -11,13 +10,13 @@ use Rattle.reading.specs.Statement.{Item}
 use Rattle.text.specs.Lists.{any}
 use Rattle.profiling.specs.Profile.{isHigh}
 use Rattle.read_forms.specs.declared.Items.{Items}
-use Rattle.read_forms.specs.Items.{tokensFrom, entries, rest, listed, itemsIn}
+use Rattle.read_forms.specs.Items.{tokensFrom, entries, listed, itemsIn}
 use Rattle.read_forms.specs.Forms.{countFor, valuesIn}
 use Rattle.read_forms.specs.Fits.{Listed}
+use Rattle.read_forms.proofs.Entries.{entries-next, listed-next}
 use Rattle.read_forms.proofs.Lists.{items-are}
 use Rattle.read_checks.specs.declared.Entry.{Entry}
-use Rattle.read_checks.specs.Answers.{entryIn, EntryHere}
-use Rattle.read_checks.proofs.Entries.{entries-more, listed-more}
+use Rattle.read_checks.specs.Answers.{entryIn, NextEntry}
 use Rattle.read_parts.specs.declared.Part.{Part}
 use Rattle.read_parts.specs.declared.Part.the-variants.{Absent, Modes, Counts, N, Operand, Name, Values, Op, Omitted}
 use Rattle.read_parts.proofs.Part.{the-type}
@@ -43,35 +42,22 @@ module _ {s : List ℕ} {n₀ o₀ n o : ℕ} (l : Left s n₀ o₀ n o) where
   unfolding entries
   left-none e = sym (ap (λ (k : ℕ). anyHigh (entries k (tokensFrom s o))) e) ∙ l .same
 
-  module _ (k : 0 < n) where
-    one-less : suc (n - 1) ≡ n
-    one-less = omega arith
+  -- there is an entry, and the others are read from its cursor
+  module _ (k : 0 < n) {r : Entry} (h : NextEntry s o r) where
+    told : isHigh (countFor (entryIn s r)) || highAt s (n - 1) (r .next .at) ≡ highAt s n₀ o₀
+    told = sym (ap anyHigh (entries-next k (h .here))) ∙ l .same
 
-    -- there is an entry
-    pub left-one : listed 1 (tokensFrom s o) ≡ true
-    left-one = listed-more (n - 1) (tokensFrom s o) (rw one-less (l .entered)) .0
+    -- its count is above 10
+    pub left-high : isHigh (countFor (entryIn s r)) ≡ true → true ≡ highAt s n₀ o₀
+    left-high e = sym (ap (λ (t : Bool). t || highAt s (n - 1) (r .next .at)) e) ∙ told
 
-    module _ {r : Entry} (h : EntryHere s o r) where
-      abbrev others : List Item
-      others = entries (n - 1) (rest (rest (tokensFrom s o)))
-
-      told : isHigh (countFor (entryIn s r)) || anyHigh others ≡ highAt s n₀ o₀
-      told = sym (ap anyHigh (rw one-less at (entries-more (n - 1) (tokensFrom s o) (entryIn s r) (h .entry)))) ∙ l .same
-
-      -- its count is above 10
-      pub left-high : isHigh (countFor (entryIn s r)) ≡ true → true ≡ highAt s n₀ o₀
-      left-high e = sym (ap (λ (t : Bool). t || anyHigh others) e) ∙ told
-
-      -- it is not
-      pub left-next :
-          (p : ℕ) → rest (tokensFrom s (r .next .at)) ≡ tokensFrom s p → isHigh (countFor (entryIn s r)) ≡ false
-          → Left s n₀ o₀ (n - 1) p
-      left-next p e f =
-          let b : rest (rest (tokensFrom s o)) ≡ tokensFrom s p = ap rest (h .behind) ∙ e in
-          record {
-            entered = rw b at (listed-more (n - 1) (tokensFrom s o) (rw one-less (l .entered)) .1);
-            same = rw b at (sym (ap (λ (t : Bool). t || anyHigh others) f) ∙ told);
-          }
+    -- it is not
+    pub left-next : isHigh (countFor (entryIn s r)) ≡ false → Left s n₀ o₀ (n - 1) (r .next .at)
+    left-next e =
+        record {
+          entered = listed-next k (h .here) (l .entered);
+          same = sym (ap (λ (t : Bool). t || highAt s (n - 1) (r .next .at)) e) ∙ told;
+        }
 
 -- an argument that is no counts
 pub no-counts : (s : List ℕ) (p : Part) → OneOf (0 ∷ 1 ∷ 3 ∷ 4 ∷ 5 ∷ 6 ∷ 7 ∷ 8 ∷ []) (tagOf the-type p) → false ≡ highPart s p

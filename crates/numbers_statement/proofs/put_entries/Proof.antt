@@ -5,12 +5,12 @@ use native.Mathlib.Omega.{arith}
 use borrow.Author.Needs.{needs}
 use denote.Ref.{now}
 use Rattle.read_forms.specs.Items.{tokensFrom, entries, itemsIn}
+use Rattle.read_forms.proofs.Entries.{first-listed}
 use Rattle.read_forms.proofs.Lists.{items-are}
 use Rattle.print_writing.proofs.Going.{going, as-long}
-use Rattle.numbers_statement.specs.Ready.{Ready}
 use Rattle.numbers_statement.specs.Entries.{entriesNumbers}
 use Rattle.numbers_statement.proofs.Pieces.{ready-same}
-use Rattle.numbers_statement.proofs.Entries.{Left, none-left, entry-left, entry-ready, entry-put}
+use Rattle.numbers_statement.proofs.Entries.{Left, none-left, entry-ready, entry-put}
 use Rattle.numbers_statement.proofs.put_entries.Statement.{statement}
 use Rattle.numbers_statement.proofs.put_entries.Tie as tie
 
@@ -31,25 +31,22 @@ list a = ap (entriesNumbers (a .args .entry)) (items-are (now (a .args .text)) (
 loop-holds : tie.Need-loop-holds Inv-loop μ-loop
 loop-holds c = record { entered = c .before .before .before .pre .1 .are; under-way = going _ _ _ }
 
-entry-at-requires : tie.Need-entry-at-requires Inv-loop μ-loop
-entry-at-requires c κs = let l = c .before in (l .before .before .before .before .pre .0, entry-left (l .loop .inv) (c .loop-test .taken))
+next-entry-requires : tie.Need-next-entry-requires Inv-loop μ-loop
+next-entry-requires c κs = let l = c .before in (l .before .before .before .before .pre .0, first-listed 1 _ _ (l .loop .inv .entered) (c .loop-test .taken))
 
 put-entry-requires : tie.Need-put-entry-requires Inv-loop μ-loop
 put-entry-requires c κs =
     let i = c .before in
     let l = i .before .before in
     let a = l .before .before .before .before in
-    (i .entry-at .ensures .inside, entry-ready (l .loop .inv) (i .before .loop-test .taken) (i .entry-at .ensures) (ready-same (list a) (a .pre .2)))
-
-past-comma-requires : tie.Need-past-comma-requires Inv-loop μ-loop
-past-comma-requires c κs = c .before .before .before .before .before .before .before .before .before .before .pre .0
+    (i .next-entry .ensures .inside, entry-ready (l .loop .inv) (i .before .loop-test .taken) (i .next-entry .ensures) (ready-same (list a) (a .pre .2)))
 
 loop-again : tie.Need-loop-again Inv-loop μ-loop
 loop-again c =
     let p = c .before .before .before in
     let i = p .before .before in
     let l = i .before .before in
-    entry-put (l .loop .inv) (i .before .loop-test .taken) (i .entry-at .ensures) (p .put-entry .ensures) (c .past-comma .ensures)
+    entry-put (l .loop .inv) (i .before .loop-test .taken) (i .next-entry .ensures) (p .put-entry .ensures)
 
 same-length : tie.Need-same-length Inv-loop μ-loop
 same-length c = as-long (c .before .loop .inv .under-way)
@@ -64,9 +61,8 @@ put-entries-spec =
     Inv-loop
     μ-loop
     loop-holds
-    entry-at-requires
+    next-entry-requires
     put-entry-requires
-    past-comma-requires
     (λ c. search needs)
     (λ c. search needs)
     loop-again

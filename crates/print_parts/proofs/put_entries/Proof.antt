@@ -4,10 +4,11 @@ use native.Mathlib.Omega.{arith}
 use borrow.Author.Needs.{needs}
 use denote.Ref.{now}
 use Rattle.read_forms.specs.Items.{tokensFrom}
+use Rattle.read_forms.proofs.Entries.{first-listed}
 use Rattle.print_writing.specs.Written.{Room}
 use Rattle.print_writing.proofs.Writing.{room-same}
 use Rattle.print_writing.proofs.Going.{going, as-long}
-use Rattle.print_parts.proofs.Entries.{entriesOf, all-entries, Left, none-left, entry-left, entry-room, comma-room, entry-put}
+use Rattle.print_parts.proofs.Entries.{entriesOf, all-entries, Left, none-left, entry-room, comma-room, entry-put}
 use Rattle.print_parts.proofs.put_entries.Statement.{statement}
 use Rattle.print_parts.proofs.put_entries.Tie as tie
 
@@ -30,24 +31,21 @@ room c =
 loop-holds : tie.Need-loop-holds Inv-loop μ-loop
 loop-holds c = record { entered = c .before .before .before .pre .1 .are; under-way = going _ _ _ }
 
-entry-at-requires : tie.Need-entry-at-requires Inv-loop μ-loop
-entry-at-requires c κs = (c .before .before .before .before .before .pre .0, entry-left (c .before .loop .inv) (c .loop-test .taken))
+next-entry-requires : tie.Need-next-entry-requires Inv-loop μ-loop
+next-entry-requires c κs = (c .before .before .before .before .before .pre .0, first-listed 1 _ _ (c .before .loop .inv .entered) (c .loop-test .taken))
 
 put-entry-requires : tie.Need-put-entry-requires Inv-loop μ-loop
 put-entry-requires c κs =
     let i = c .before in
     let l = i .before .before in
-    (i .entry-at .ensures .inside, entry-room (l .loop .inv) (i .before .loop-test .taken) (i .entry-at .ensures) (room l))
+    (i .next-entry .ensures .inside, entry-room (l .loop .inv) (i .before .loop-test .taken) (i .next-entry .ensures) (room l))
 
 put-comma-requires : tie.Need-put-comma-requires Inv-loop μ-loop
 put-comma-requires c κs =
     let p = c .before .before .before in
     let i = p .before .before in
     let l = i .before .before in
-    comma-room (l .loop .inv) (i .before .loop-test .taken) (i .entry-at .ensures) (p .put-entry .ensures) (room l)
-
-past-comma-requires : tie.Need-past-comma-requires Inv-loop μ-loop
-past-comma-requires c κs = c .before .before .before .before .before .before .before .before .before .before .before .before .before .before .pre .0
+    comma-room (l .loop .inv) (i .before .loop-test .taken) (i .next-entry .ensures) (p .put-entry .ensures) (room l)
 
 loop-again : tie.Need-loop-again Inv-loop μ-loop
 loop-again c =
@@ -55,8 +53,7 @@ loop-again c =
     let p = q .before .before .before .before in
     let i = p .before .before in
     let l = i .before .before in
-    entry-put (l .loop .inv) (i .before .loop-test .taken) (i .entry-at .ensures) (p .put-entry .ensures) (q .put-comma .ensures)
-    (c .past-comma .ensures)
+    entry-put (l .loop .inv) (i .before .loop-test .taken) (i .next-entry .ensures) (p .put-entry .ensures) (q .put-comma .ensures)
 
 same-length : tie.Need-same-length Inv-loop μ-loop
 same-length c = as-long (c .before .loop .inv .under-way)
@@ -74,10 +71,9 @@ put-entries-spec =
     Inv-loop
     μ-loop
     loop-holds
-    entry-at-requires
+    next-entry-requires
     put-entry-requires
     put-comma-requires
-    past-comma-requires
     (λ c. search needs)
     (λ c. search needs)
     loop-again

@@ -15,15 +15,15 @@ use Rattle.tokens.specs.Next.{cursor}
 use Rattle.reading.specs.Statement.{Item}
 use Rattle.reading.specs.Argument as argument
 use Rattle.reading.specs.Syntax.{Call, turn, arrayOpen, item, argumentRead}
-use Rattle.read_forms.specs.Items.{tokensFrom, rest, entries, afterEntries, listed, itemsIn}
+use Rattle.read_forms.specs.Items.{tokensFrom, entries, afterEntries, listed, itemsIn}
 use Rattle.read_forms.specs.Forms.{argIn}
 use Rattle.read_forms.specs.Fits.{Listed, Fits}
+use Rattle.read_forms.proofs.Entries.{entries-more, listed-more, after-more, entries-length}
 use Rattle.read_forms.proofs.Lists.{items-are}
 use Rattle.tokens.proofs.Views.{Known, known, known-mark}
 use Rattle.read_arguments.specs.declared.Entry.{Entry}
 use Rattle.read_arguments.specs.Answers.{readIn, argThen, ArgFurther, entryThen, EntryFurther, EntryListed}
 use Rattle.read_arguments.proofs.Reading.{read-token, not-empty}
-use Rattle.read_arguments.proofs.Entries.{entries-more, listed-more, after-more, entries-length}
 use Rattle.read_arguments.proofs.array.Statement.{statement}
 use Rattle.read_arguments.proofs.array.Tie as tie
 
@@ -132,8 +132,8 @@ loop-again c =
       are = more-listed s p o n cur g (d .read-entry .result) (d .read-entry .ensures .0) (e .0);
       behind =
           ap (λ (k : ℕ). afterEntries k (tokensFrom s o)) (add-one n)
-          ∙ after-more n (tokensFrom s o)
-          ∙ ap (λ (ts : Tokens). rest (rest ts)) (g .behind)
+          ∙ after-more n (tokensFrom s o) (g .are)
+          ∙ ap (afterEntries 1) (g .behind)
           ∙ f .2;
       few = omega (arith, f .0, g .few);
       past = omega (arith, f .0, g .past);

@@ -6,7 +6,7 @@ use native.Mathlib.Omega.{arith}
 use denote.Ref.{now}
 use Rattle.tokens.specs.Token.{Tokens}
 use Rattle.reading.specs.Syntax.{turn, item}
-use Rattle.read_forms.specs.Items.{tokensFrom, rest, entries}
+use Rattle.read_forms.specs.Items.{tokensFrom, entries, afterEntries}
 use Rattle.tokens.proofs.Views.{Known, known}
 use Rattle.read_arguments.specs.Answers.{refusedBy, entryThen, EntryFurther, EntryListed}
 use Rattle.read_arguments.proofs.Reading.{rejected}
@@ -47,8 +47,8 @@ returns-3 c =
           taken (stands b) limit call p items (omega (arith, l, c .before .if2 .left))
           ∙ c .after-entry .ensures .0 limit call p (items ++ entries 1 (tokensFrom s o))),
       (
-        entry-further (stands b) (rest (rest (tokensFrom s o))) (c .after-entry .result)
-            (subst (λ (ts : Tokens). EntryFurther s (b .before .before .before .token .result .next .at) (rest ts) (c .after-entry .result)) (sym (behind (stands b)))
+        entry-further (stands b) (afterEntries 1 (tokensFrom s o)) (c .after-entry .result)
+            (subst (λ (ts : Tokens). EntryFurther s (b .before .before .before .token .result .next .at) ts (c .after-entry .result)) (sym (behind (stands b)))
             (c .after-entry .ensures .1)),
         entry-listed (stands b) _ (c .after-entry .result) (c .before .if2 .left),
       ),

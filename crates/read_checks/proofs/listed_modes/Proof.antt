@@ -8,10 +8,11 @@ use Rattle.labels.specs.Word.{find}
 use Rattle.labels.specs.Label.{labelsOf}
 use Rattle.read_forms.specs.Items.{nameIn}
 use Rattle.read_forms.specs.Forms.{modesIn}
+use Rattle.read_forms.proofs.Entries.{first-listed}
 use Rattle.read_forms.proofs.Lists.{items-are}
 use Rattle.read_checks.specs.Answers.{modesAs}
 use Rattle.read_checks.proofs.Judging.{found-some, found-none}
-use Rattle.read_checks.proofs.Modes.{Sofar, sofar-start, sofar-few, sofar-none, sofar-one, sofar-refused, sofar-next, found-small}
+use Rattle.read_checks.proofs.Modes.{Sofar, sofar-start, sofar-few, sofar-none, sofar-refused, sofar-next, found-small}
 use borrow.Author.Needs.{needs}
 use Rattle.read_checks.proofs.listed_modes.Statement.{statement}
 use Rattle.read_checks.proofs.listed_modes.Tie as tie
@@ -25,11 +26,11 @@ abbrev μ-loop : tie.MeasureT-loop
 loop-holds : tie.Need-loop-holds Inv-loop μ-loop
 loop-holds c = sofar-start _ _ _ _ (c .before .before .pre .2 .are)
 
-entry-at-requires : tie.Need-entry-at-requires Inv-loop μ-loop
-entry-at-requires c κs = (c .before .before .before .before .pre .0, sofar-one (c .before .loop .inv) (c .loop-test .taken))
+next-entry-requires : tie.Need-next-entry-requires Inv-loop μ-loop
+next-entry-requires c κs = (c .before .before .before .before .pre .0, first-listed 1 _ _ (c .before .loop .inv .entered) (c .loop-test .taken))
 
 mode-at-requires : tie.Need-mode-at-requires Inv-loop μ-loop
-mode-at-requires c κs = (c .before .before .before .before .before .before .pre .1, c .before .entry-at .ensures .inside)
+mode-at-requires c κs = (c .before .before .before .before .before .before .pre .1, c .before .next-entry .ensures .inside)
 
 returns : tie.Need-returns Inv-loop μ-loop
 unfolding modesAs
@@ -37,7 +38,7 @@ returns c =
     let m = c .before .before in
     let i = m .before .before in
     rw (items-are _ _ (i .before .before .before .before .before .pre .2))
-    (sofar-refused (i .before .before .loop .inv) (i .before .loop-test .taken) (i .entry-at .ensures)
+    (sofar-refused (i .before .before .loop .inv) (i .before .loop-test .taken) (i .next-entry .ensures)
     (found-none _ (sym (c .enum-told .given .1) ∙ m .mode-at .ensures)))
 
 -- the entry is a mode
@@ -45,7 +46,7 @@ found :
     (c : tie.After-known-told Inv-loop μ-loop)
     → (let i = c .before .before .before .before .before in
     let a = i .before .before .before .before .before .args in
-    find (nameIn (now (a .text)) (i .entry-at .result .name) .spelling) (labelsOf (a .family)) ≡ some (c .before .place .given .0 .0))
+    find (nameIn (now (a .text)) (i .next-entry .result .name) .spelling) (labelsOf (a .family)) ≡ some (c .before .place .given .0 .0))
 found c =
     let k = c .before in
     found-some (find _ _) _ (sym (k .place .given .1) ∙ k .before .before .mode-at .ensures)
@@ -58,15 +59,12 @@ with-place-requires c κs =
     let l = c .before .before .before .before .before .before .before in
     (l .loop .inv .snug, sofar-few (l .loop .inv), omega (arith, found-small _ _ _ (found c)))
 
-past-comma-requires : tie.Need-past-comma-requires Inv-loop μ-loop
-past-comma-requires c κs = c .before .before .before .before .before .before .before .before .before .before .before .pre .0
-
 loop-again : tie.Need-loop-again Inv-loop μ-loop
 loop-again c =
     let w = c .before in
     let i = w .before .before .before .before .before .before in
-    sofar-next (i .before .before .loop .inv) (i .before .loop-test .taken) (i .entry-at .ensures) _ (c .past-comma .result .at)
-    (w .with-place .result) (found (w .before)) (c .past-comma .ensures) (w .with-place .ensures)
+    sofar-next (i .before .before .loop .inv) (i .before .loop-test .taken) (i .next-entry .ensures) _ (w .with-place .result)
+    (found (w .before)) (w .with-place .ensures)
 
 returns-2 : tie.Need-returns-2 Inv-loop μ-loop
 unfolding modesAs modesIn
@@ -79,14 +77,13 @@ listed-modes-spec =
     Inv-loop
     μ-loop
     loop-holds
-    entry-at-requires
+    next-entry-requires
     mode-at-requires
     (λ c. search needs)
     returns
     (λ c. search needs)
     cast-with-place
     with-place-requires
-    past-comma-requires
     (λ c. search needs)
     (λ c. search needs)
     loop-again

@@ -20,14 +20,14 @@ no-counts-requires c κs = tt
 loop-holds : tie.Need-loop-holds Inv-loop μ-loop
 loop-holds c = none-gone countFor _ _ _ (c .before .no-counts .ensures)
 
-entry-at-requires : tie.Need-entry-at-requires Inv-loop μ-loop
-entry-at-requires c κs =
+next-entry-requires : tie.Need-next-entry-requires Inv-loop μ-loop
+next-entry-requires c κs =
     let l = c .before .before in
     let p = l .before .before .before .before .pre in
     (p .0, next-stands _ _ (l .loop .n) (l .loop .cur .at) (p .1) (l .loop .inv .come) (c .if1 .taken))
 
 count-or-0-requires : tie.Need-count-or-0-requires Inv-loop μ-loop
-count-or-0-requires c κs = c .entry-at .ensures .inside
+count-or-0-requires c κs = c .next-entry .ensures .inside
 
 mul-counts : tie.Need-mul-counts Inv-loop μ-loop
 mul-counts c =
@@ -38,9 +38,6 @@ array-write-counts : tie.Need-array-write-counts Inv-loop μ-loop
 array-write-counts c =
     let l = c .before .before .before .before in
     omega (arith, l .loop .inv .size, l .before .before .before .before .pre .1 .few, c .before .before .if1 .taken)
-
-past-comma-requires : tie.Need-past-comma-requires Inv-loop μ-loop
-past-comma-requires c κs = c .before .before .before .before .before .before .before .before .pre .0
 
 add-n : tie.Need-add-n Inv-loop μ-loop
 add-n c =
@@ -55,8 +52,8 @@ loop-again c =
     let l = c .before .before .before .before .before in
     let a = l .before .before .before .before .args in
     let i = c .before .before in
-    one-more countFor (now (a .text)) (a .items) _ (l .loop .n) (l .loop .cur .at) (c .past-comma .result .at) (i .entry-at .result) (c .before .count-or-0 .result) (l .before .before .before .before .pre .1)
-    (l .loop .inv) (c .before .before .before .if1 .taken) (i .entry-at .ensures) (c .past-comma .ensures)
+    one-more countFor (now (a .text)) (a .items) _ (l .loop .n) (l .loop .cur .at) (i .next-entry .result) (c .before .count-or-0 .result) (l .before .before .before .before .pre .1)
+    (l .loop .inv) (c .before .before .before .if1 .taken) (i .next-entry .ensures)
     (sym (c .before .count-or-0 .ensures))
 
 returns : tie.Need-returns Inv-loop μ-loop
@@ -72,11 +69,10 @@ counts-of-spec =
     μ-loop
     no-counts-requires
     loop-holds
-    entry-at-requires
+    next-entry-requires
     count-or-0-requires
     mul-counts
     array-write-counts
-    past-comma-requires
     add-n
     loop-less
     loop-again

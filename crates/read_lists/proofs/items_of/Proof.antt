@@ -19,8 +19,8 @@ no-items-requires c κs = tt
 loop-holds : tie.Need-loop-holds Inv-loop μ-loop
 loop-holds c = none-gone itemFor _ _ _ (c .before .no-items .ensures)
 
-entry-at-requires : tie.Need-entry-at-requires Inv-loop μ-loop
-entry-at-requires c κs =
+next-entry-requires : tie.Need-next-entry-requires Inv-loop μ-loop
+next-entry-requires c κs =
     let l = c .before .before in
     let p = l .before .before .before .before .pre in
     (p .0, next-stands _ _ (l .loop .i) (l .loop .cur .at) (p .1) (l .loop .inv .come) (c .if1 .taken))
@@ -35,9 +35,6 @@ array-set-from-all c =
     let l = c .before .before .before .before in
     omega (arith, l .loop .inv .size, l .before .before .before .before .pre .1 .few, c .before .before .if1 .taken)
 
-past-comma-requires : tie.Need-past-comma-requires Inv-loop μ-loop
-past-comma-requires c κs = c .before .before .before .before .before .before .before .before .pre .0
-
 add-i : tie.Need-add-i Inv-loop μ-loop
 add-i c =
     let l = c .before .before .before .before .before in
@@ -51,9 +48,9 @@ loop-again c =
     let l = c .before .before .before .before .before in
     let a = l .before .before .before .before .args in
     let i = c .before .before in
-    one-more itemFor (now (a .text)) (a .items) _ (l .loop .i) (l .loop .cur .at) (c .past-comma .result .at) (i .entry-at .result) (record { kind = i .entry-at .result .kind; name = i .entry-at .result .name }) (l .before .before .before .before .pre .1)
-    (l .loop .inv) (c .before .before .before .if1 .taken) (i .entry-at .ensures) (c .past-comma .ensures)
-    (own-item (now (a .text)) (i .entry-at .result) (i .entry-at .ensures .inside))
+    one-more itemFor (now (a .text)) (a .items) _ (l .loop .i) (l .loop .cur .at) (i .next-entry .result) (record { kind = i .next-entry .result .kind; name = i .next-entry .result .name }) (l .before .before .before .before .pre .1)
+    (l .loop .inv) (c .before .before .before .if1 .taken) (i .next-entry .ensures)
+    (own-item (now (a .text)) (i .next-entry .result) (i .next-entry .ensures .inside))
 
 returns : tie.Need-returns Inv-loop μ-loop
 returns c =
@@ -68,10 +65,9 @@ items-of-spec =
     μ-loop
     no-items-requires
     loop-holds
-    entry-at-requires
+    next-entry-requires
     mul-all
     array-set-from-all
-    past-comma-requires
     add-i
     loop-less
     loop-again

@@ -5,7 +5,8 @@ use native.Mathlib.Omega.{arith}
 use borrow.Author.Tests.{lt-ltb, le-ltb}
 use borrow.Author.Needs.{needs}
 use Rattle.profiling.specs.Profile.{isHigh}
-use Rattle.read_profile.proofs.HighCounts.{Left, listed-high, left-none, left-one, left-high, left-next}
+use Rattle.read_forms.proofs.Entries.{first-listed}
+use Rattle.read_profile.proofs.HighCounts.{Left, listed-high, left-none, left-high, left-next}
 use Rattle.read_profile.proofs.any_high.Statement.{statement}
 use Rattle.read_profile.proofs.any_high.Tie as tie
 
@@ -18,22 +19,19 @@ abbrev μ-loop : tie.MeasureT-loop
 loop-holds : tie.Need-loop-holds Inv-loop μ-loop
 loop-holds c = record { entered = c .before .before .pre .1 .are; same = refl }
 
-entry-at-requires : tie.Need-entry-at-requires Inv-loop μ-loop
-entry-at-requires c κs = (c .before .before .before .before .pre .0, left-one (c .before .loop .inv) (c .loop-test .taken))
+next-entry-requires : tie.Need-next-entry-requires Inv-loop μ-loop
+next-entry-requires c κs = (c .before .before .before .before .pre .0, first-listed 1 _ _ (c .before .loop .inv .entered) (c .loop-test .taken))
 
 count-or-0-requires : tie.Need-count-or-0-requires Inv-loop μ-loop
-count-or-0-requires c κs = c .entry-at .ensures .inside
+count-or-0-requires c κs = c .next-entry .ensures .inside
 
 returns : tie.Need-returns Inv-loop μ-loop
 returns c =
     let k = c .before in
     let e = k .before in
     let t = e .before in
-    left-high (t .before .loop .inv) (t .loop-test .taken) (e .entry-at .ensures) (sym (ap isHigh (k .count-or-0 .ensures)) ∙ lt-ltb 10 _ (c .if1 .taken))
+    left-high (t .before .loop .inv) (t .loop-test .taken) (e .next-entry .ensures) (sym (ap isHigh (k .count-or-0 .ensures)) ∙ lt-ltb 10 _ (c .if1 .taken))
     ∙ listed-high _ _ (t .before .before .before .before .pre .1)
-
-past-comma-requires : tie.Need-past-comma-requires Inv-loop μ-loop
-past-comma-requires c κs = c .before .before .before .before .before .before .before .pre .0
 
 loop-again : tie.Need-loop-again Inv-loop μ-loop
 loop-again c =
@@ -41,7 +39,7 @@ loop-again c =
     let k = f .before in
     let e = k .before in
     let t = e .before in
-    left-next (t .before .loop .inv) (t .loop-test .taken) (e .entry-at .ensures) (c .past-comma .result .at) (c .past-comma .ensures)
+    left-next (t .before .loop .inv) (t .loop-test .taken) (e .next-entry .ensures)
     (sym (ap isHigh (k .count-or-0 .ensures)) ∙ le-ltb 10 _ (f .if1 .left))
 
 returns-2 : tie.Need-returns-2 Inv-loop μ-loop
@@ -54,10 +52,9 @@ any-high-spec =
     Inv-loop
     μ-loop
     loop-holds
-    entry-at-requires
+    next-entry-requires
     count-or-0-requires
     returns
-    past-comma-requires
     (λ c. search needs)
     (λ c. search needs)
     loop-again
