@@ -195,9 +195,7 @@ pub fn count_at(text: &[u8], name: Name, limit: u32) -> Counted
     requires { ⌜ InText (now text) name ⌝ }
     ensures { λ r. ⌜ r ≡ countOf limit (nameIn (now (text .entry)) name .spelling) ⌝ }
 {
-    let start = name.offset;
-    let end = start + name.length;
-    counts::count_of(&text[start..end], limit)
+    counts::count_of(spelling(text, name), limit)
 }
 
 // Whether a text is read at all, or why it is not.
