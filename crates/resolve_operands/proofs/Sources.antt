@@ -21,7 +21,8 @@ use Rattle.read_forms.specs.Forms.{operandIn}
 use Rattle.resolve_context.specs.declared.Layout.{Layout}
 use Rattle.resolve_context.specs.Lists.{namesIn, Sound, Stands, covariatesOf}
 use Rattle.resolve_context.proofs.Meaning.{parameters-sound, covariates-sound, parameters-are, covariates-are}
-use Rattle.resolve_symbols.specs.declared.Source.the-variants.{Values, Covariates}
+use Rattle.resolve_symbols.specs.declared.Source.the-variants.{Values, Given}
+use Rattle.resolve_symbols.specs.declared.Listing.the-variants.{Covariates}
 use Rattle.resolve_symbols.specs.declared.Looked.{Looked}
 use Rattle.resolve_symbols.specs.declared.Looked.the-variants.{Names}
 use Rattle.resolve_symbols.specs.Sources.{lookedAs, Means}
@@ -47,7 +48,7 @@ module _ (s l : List ℕ) (n : ℕ) (y : Layout) where
     unfolding operandIn
     star-stands w r e q h c m = ap known (h c m ∙ ap (meaningIn s l n c) q) ∙ rw e
 
-    pub every-stands : every ≡ true → StandsFor s y (Names Covariates) (operandNames s l n star every operand.Wildcard)
+    pub every-stands : every ≡ true → StandsFor s y (Names (Given Covariates)) (operandNames s l n star every operand.Wildcard)
     unfolding operandIn
     every-stands e c m = rw e
 

@@ -2,28 +2,29 @@
 // or `*`, is held by 15 to the list that written names are held to there." The indexes stand in an array that the caller lends.
 ghost use mathlib.Core.Path.{_≡_};
 ghost use mathlib.Core.Bool.{true, cond};
-ghost use mathlib.Core.Option.{Option};
-ghost use Prim.Native.Nat.{ℕ, _+_, _≤_, _<_};
+ghost use mathlib.Core.List.{[], _∷_};
+ghost use Prim.Native.Nat.{_+_, _≤_, _<_};
 ghost use lib.ListN.{length, take};
 ghost use Rattle.tokens.specs.Class.{classTable};
 ghost use Rattle.reading.specs.Answer.{accepted};
 ghost use Rattle.resolving.specs.Operands.{held};
 ghost use Rattle.resolving.specs.Handed.{isHanded, handedContext};
 ghost use Rattle.read_parts.specs.Meaning.{OperandFits};
-ghost use Rattle.resolve_context.specs.Lists.{namesIn, Sound, Stands, covariatesOf, layoutOf, foundAs};
+ghost use Rattle.resolve_context.specs.Lists.{namesIn, Sound, Stands, covariatesOf, layoutOf};
 ghost use Rattle.resolve_symbols.specs.Lets.{LetsFit};
 ghost use Rattle.resolve_symbols.specs.Sources.{sourceList, SourceFits, LookedFits};
 ghost use Rattle.resolve_operands.specs.Picked.{standsIn, withIndex, PickedAs};
-ghost use Rattle.resolve_operands.specs.Named.{namedAs, NamedFits, inBlock, extentOf, EntryAt, NameHere, foundIn, placedAs};
+ghost use Rattle.resolve_symbols.specs.Brings.{namedAs, NamedFits};
+ghost use Rattle.resolve_operands.specs.Named.{extentOf, EntryAt, NameHere, PlacedAs};
 ghost use Rattle.resolve_operands.specs.Entries.{entriesAs, targetOf, StandsFor, operandNames, parametersIn, covariatesIn};
 use read_forms::Items;
-use read_forms::Name;
 use read_forms::Operand;
 use resolve_context::Found;
 use resolve_context::Layout;
 use resolve_context::Names;
-use resolve_symbols::Brought;
+use resolve_symbols::Listing;
 use resolve_symbols::Looked;
+use resolve_symbols::Named;
 use resolve_symbols::Source;
 use tokens::Classes;
 use tokens::Cursor;
@@ -34,13 +35,6 @@ pub const NO_FAULT: u8 = 0;
 pub const UNKNOWN_SYMBOL: u8 = 14;
 
 pub const UNKNOWN_NAME: u8 = 15;
-
-// A name before it is an index: a pair into the text or into the context's block, by its mark; or nothing, where an entry brings none.
-enum Named {
-    Text(Name),
-    Block(Name),
-    Nothing,
-}
 
 // What an entry of a source brings, and the cursor behind it where it stands in the text.
 struct NextName {
@@ -93,23 +87,15 @@ fn push_index(indexes: &mut [u8; 64], count: usize, index: u8) -> usize
 fn extent_of(layout: Layout, source: Source) -> Items
     ensures { λ r. ⌜ r ≡ extentOf layout source ⌝ }
 {
-    let Source::Values(items) = source else {
-        let names = resolve_symbols::list_of(layout, source);
-        return Items {
-            first: Cursor { at: 0 },
-            count: names.count,
-        };
-    };
-    items
-}
-
-// A name of the block, if an entry of the context brings one.
-fn of_block(brought: Brought) -> Named
-    ensures { λ r. ⌜ r ≡ inBlock brought ⌝ }
-{
-    match brought {
-        Brought::Pair(name) => Named::Block(name),
-        Brought::Nothing => Named::Nothing,
+    match source {
+        Source::Values(items) => items,
+        Source::Given(listing) => {
+            let names = resolve_symbols::list_of(layout, listing);
+            Items {
+                first: Cursor { at: 0 },
+                count: names.count,
+            }
+        }
     }
 }
 
@@ -128,48 +114,43 @@ fn next_name(
         × (index < extentOf layout source .count) × EntryAt (now text) source index (cur .at) ⌝ }
     ensures { λ r. ⌜ NameHere (now (text .entry)) (now (block .entry)) (now (lists .entry)) layout source index r ⌝ }
 {
-    let Source::Values(items) = source else {
-        return NextName {
-            named: of_block(resolve_symbols::bring(block, lists, layout, source, index)),
+    match source {
+        Source::Values(items) => {
+            let entry = read_checks::entry_at(text, classes, cur);
+            let name = entry.name;
+            NextName {
+                named: Named::Text(name),
+                next: read_checks::past_comma(text, classes, entry.next),
+            }
+        }
+        Source::Given(listing) => NextName {
+            named: resolve_symbols::bring(block, lists, layout, listing, index),
             next: cur,
-        };
-    };
-    let entry = read_checks::entry_at(text, classes, cur);
-    let name = entry.name;
-    NextName {
-        named: Named::Text(name),
-        next: read_checks::past_comma(text, classes, entry.next),
+        },
     }
 }
 
-fn placed_by(found: Found) -> Placed
-    ensures { λ r. ⌜ ((o : Option ℕ) → found ≡ foundAs o → r ≡ foundIn o) ⌝ }
+// Where a word stands in a list: the place of its first entry, or that it has none.
+fn place_of_word(block: &[u8], lists: &[u32], target: Names, word: &[u8]) -> Placed
+    requires { ⌜ Sound (now block) (now lists) target ⌝ }
+    ensures { λ r. ⌜ PlacedAs (namesIn (now (block .entry)) (now (lists .entry)) target) (now (word .entry) ∷ []) r ⌝ }
 {
-    match found {
+    match resolve_context::index_of(block, lists, target, word) {
         Found::Place(place) => Placed::At(place),
         Found::Nothing => Placed::Missing,
     }
 }
 
-// Where a name stands in a list: the place of its first entry, or that it has none; or that there is no name. A name is spelled in the text or in the
-// block, by its mark.
+// Where a name stands in a list, if there is one. It is spelled in the text or in the block, by its mark.
 fn place_of(text: &[u8], block: &[u8], lists: &[u32], target: Names, named: Named) -> Placed
     requires { ⌜ Sound (now block) (now lists) target × NamedFits (now text) (now block) named ⌝ }
-    ensures { λ r. ⌜ r ≡ placedAs (namesIn (now (block .entry)) (now (lists .entry)) target) (namedAs (now (text .entry)) (now (block .entry)) named) ⌝ }
+    ensures { λ r. ⌜ PlacedAs (namesIn (now (block .entry)) (now (lists .entry)) target) (namedAs (now (text .entry)) (now (block .entry)) named) r ⌝ }
 {
     match named {
-        Named::Text(name) => placed_by(resolve_context::index_of(
-            block,
-            lists,
-            target,
-            read_forms::spelling(text, name),
-        )),
-        Named::Block(name) => placed_by(resolve_context::index_of(
-            block,
-            lists,
-            target,
-            read_forms::spelling(block, name),
-        )),
+        Named::Text(name) => place_of_word(block, lists, target, read_forms::spelling(text, name)),
+        Named::Block(name) => {
+            place_of_word(block, lists, target, read_forms::spelling(block, name))
+        }
         Named::Nothing => Placed::NoName,
     }
 }
@@ -255,7 +236,7 @@ fn source_of<'a>(
         Operand::Symbol(name) => read_forms::spelling(text, name),
         Operand::Wildcard => {
             if every {
-                return Looked::Names(Source::Covariates);
+                return Looked::Names(Source::Given(Listing::Covariates));
             }
             star
         }

@@ -1,36 +1,38 @@
--- What an entry brings, as it is answered: nothing, or the pair of a name.
+-- What an entry brings, as it is answered: nothing, or the pair of a name; for an entry of the template by the place of a parameter.
 -- Assumes nothing.
-use mathlib.Core.Path.{_≡_, refl, _∙_, ap, sym, subst}
+use mathlib.Core.Path.{_≡_, refl, _∙_, ap, sym, subst, subst₂}
 use mathlib.Core.Bool.{Bool, true, false, cond, _||_, Bool·beq}
 use mathlib.Core.List.{List, [], _∷_}
 use mathlib.Core.Option.{Option, some, none}
-use Prim.Native.Nat.{ℕ, _<_}
+use Prim.Native.Nat.{ℕ}
+use native.Mathlib.Omega.{arith}
 use lib.Dec.{eqb}
-use lib.ListN.{length, getD}
+use lib.ListN.{getD}
 use Rattle.labels.specs.Word.{sameWord}
 use Rattle.text.specs.Lists.{oneLater, any, keep, placeIn, sameBytes}
 use Rattle.resolving.specs.Context.{Binding, Declared, continuous, categorical, kindNumber}
 use Rattle.resolving.specs.Builtins.{matching}
 use Rattle.resolving.specs.Given.{kindOf}
 use Rattle.resolving_laws.proofs.Fewness.{place-below}
-use Rattle.resolve_context.specs.Lists.{foundAs}
+use Rattle.resolve_context.specs.declared.Layout.{Layout}
+use Rattle.resolve_context.specs.Lists.{foundAs, namesIn}
 use Rattle.resolve_context.specs.declared.Found.{Found}
 use Rattle.resolve_context.specs.declared.Found.the-variants as found
+use Rattle.resolve_context.proofs.Pairs.{names-length}
 use Rattle.resolve_context.proofs.Places.{found-at, found-nowhere}
 use Rattle.resolve_context.proofs.Meaning.{oneOf, matching-is}
 use Rattle.read_forms.specs.declared.Name.{Name}
 use Rattle.read_forms.specs.Fits.{InText}
-use Rattle.resolve_symbols.specs.declared.Brought.{Brought}
-use Rattle.resolve_symbols.specs.declared.Brought.the-variants.{Pair, Nothing}
+use Rattle.resolve_symbols.specs.declared.Named.the-variants.{Block, Nothing}
 use Rattle.resolve_symbols.specs.Sources.{isSome}
-use Rattle.resolve_symbols.specs.Brings.{fromBinding, fromDeclared, spelledIn, broughtAs, BroughtFits, Yields}
+use Rattle.resolve_symbols.specs.Brings.{fromBinding, fromDeclared, isIiv, parameterAt, spelledIn, FoundBelow, Matches, Yields}
 
 pub yields-nothing : {b : List ℕ} {ws : List (List ℕ)} → ws ≡ [] → Yields b ws Nothing
-yields-nothing e = record { fits = tt; same = sym e }
+yields-nothing e = record { fits = λ s. tt; same = λ s. sym e }
 
 pub yields-pair : {b : List ℕ} {ws : List (List ℕ)} {n : Name} (w : List ℕ)
-    → InText b n → spelledIn b n ≡ w → ws ≡ w ∷ [] → Yields b ws (Pair n)
-yields-pair w i e f = record { fits = i; same = ap (λ (v : List ℕ). v ∷ []) e ∙ sym f }
+    → InText b n → spelledIn b n ≡ w → ws ≡ w ∷ [] → Yields b ws (Block n)
+yields-pair w i e f = record { fits = λ s. i; same = λ s. ap (λ (v : List ℕ). v ∷ []) e ∙ sym f }
 
 -- an entry that is asked for, and one that is not
 module _ (ps : List (List ℕ)) (p : Binding → Bool) (x : Binding) where
@@ -60,46 +62,52 @@ any-place p (x ∷ xs) = by-test (p x) (any-place p xs ∙ later (placeIn p xs))
     by-test true e = refl
     by-test false e = e
 
--- a name that was brought, if it is one of a list
-module _ (b : List ℕ) (ws : List (List ℕ)) {x : Brought} {n : Name} {v : List ℕ} {r : Found}
-    (told : x ≡ Pair n) (word : v ≡ spelledIn b n) (looked : r ≡ foundAs (placeIn (sameBytes v) ws)) where
-  abbrev own : List ℕ
-  own = spelledIn b n
+module _ (b l : List ℕ) (y : Layout) where
+  abbrev parameters : List (List ℕ)
+  parameters = namesIn b l (y .parameters)
 
-  abbrev kept : List (List ℕ)
-  kept = keep (λ w. any (sameBytes w) ws) (broughtAs b x)
+  pub matches-nothing : {ws : List (List ℕ)} → ws ≡ [] → Matches b l y ws found.Nothing
+  matches-nothing e = record { below = tt; same = sym e }
 
-  kept-one : kept ≡ keep (λ w. any (sameBytes w) ws) (own ∷ [])
-  kept-one = ap (λ (y : Brought). keep (λ w. any (sameBytes w) ws) (broughtAs b y)) told
+  -- a parameter that was found, if it is an IIV parameter too
+  module _ {x r : Found} {i : ℕ} {v : List ℕ} (told : x ≡ found.Place i) (word : v ≡ getD parameters i [])
+      (looked : r ≡ foundAs (placeIn (sameBytes v) (namesIn b l (y .iiv)))) where
+    abbrev own : List ℕ
+    own = getD parameters i []
 
-  place-of : r ≡ foundAs (placeIn (sameBytes own) ws)
-  place-of = looked ∙ ap (λ (w : List ℕ). foundAs (placeIn (sameBytes w) ws)) word
+    abbrev place : Option ℕ
+    place = placeIn (sameBytes own) (namesIn b l (y .iiv))
 
-  pub if-there : {i : ℕ} → BroughtFits b x → r ≡ found.Place i → Yields b kept (Pair n)
-  if-there {i} h f =
-      let there : any (sameBytes own) ws ≡ true =
-      any-place (sameBytes own) ws ∙ ap isSome (found-at (placeIn (sameBytes own) ws) i (sym place-of ∙ f)) in
-      yields-pair own (subst (BroughtFits b) told h) refl (kept-one ∙ rw there)
+    kept-one : {t : Bool} → isSome place ≡ t → keep (isIiv b l y) (parameterAt b l y x) ≡ cond t (own ∷ []) []
+    kept-one e =
+        ap (λ (z : Found). keep (isIiv b l y) (parameterAt b l y z)) told
+        ∙ ap (λ (t : Bool). cond t (own ∷ []) []) (any-place (sameBytes own) (namesIn b l (y .iiv)) ∙ e)
 
-  pub if-absent : r ≡ found.Nothing → Yields b kept Nothing
-  if-absent f =
-      let absent : any (sameBytes own) ws ≡ false =
-      any-place (sameBytes own) ws ∙ ap isSome (found-nowhere (placeIn (sameBytes own) ws) (sym place-of ∙ f)) in
-      yields-nothing (kept-one ∙ rw absent)
+    own-place : foundAs place ≡ r
+    own-place = sym (looked ∙ ap (λ (w : List ℕ). foundAs (placeIn (sameBytes w) (namesIn b l (y .iiv)))) word)
 
--- the match of a variable
-module _ (ps : List (List ℕ)) {u v : List ℕ} {r : Found} (word : u ≡ v) (looked : r ≡ foundAs (placeIn (sameWord u) ps)) where
-  place-is : r ≡ foundAs (placeIn (sameWord v) ps)
-  place-is = looked ∙ ap (λ (w : List ℕ). foundAs (placeIn (sameWord w) ps)) word
+    pub if-there : {k : ℕ} → FoundBelow (y .parameters .count) x → r ≡ found.Place k
+        → Matches b l y (keep (isIiv b l y) (parameterAt b l y x)) (found.Place i)
+    if-there {k} h e =
+        record {
+          below = subst (FoundBelow (y .parameters .count)) told h;
+          same = sym (kept-one (ap isSome (found-at place k (own-place ∙ e))));
+        }
 
-  pub matched : {i : ℕ} → r ≡ found.Place i → matching ps v ≡ getD ps i [] ∷ []
-  matched {i} f = matching-is ps v ∙ ap (oneOf ps) (found-at (placeIn (sameWord v) ps) i (sym place-is ∙ f))
+    pub if-absent : r ≡ found.Nothing → Matches b l y (keep (isIiv b l y) (parameterAt b l y x)) found.Nothing
+    if-absent e = matches-nothing (kept-one (ap isSome (found-nowhere place (own-place ∙ e))))
 
-  pub unmatched : r ≡ found.Nothing → matching ps v ≡ []
-  unmatched f = matching-is ps v ∙ ap (oneOf ps) (found-nowhere (placeIn (sameWord v) ps) (sym place-is ∙ f))
-
-  pub match-below : {i : ℕ} → r ≡ found.Place i → i < length ps
-  match-below {i} f = place-below (sameWord v) ps i (found-at (placeIn (sameWord v) ps) i (sym place-is ∙ f))
+  -- the match of a variable
+  pub match-found : {u v : List ℕ} {r : Found} → u ≡ v → r ≡ foundAs (placeIn (sameWord u) parameters) → Matches b l y (matching parameters v) r
+  match-found {u} {v} {r} word looked =
+      subst₂ (λ (ws : List (List ℕ)) (f : Found). Matches b l y ws f) (sym (matching-is parameters v))
+      (sym (looked ∙ ap (λ (w : List ℕ). foundAs (placeIn (sameWord w) parameters)) word))
+      (by-place (placeIn (sameWord v) parameters) refl)
+    where
+      by-place : (o : Option ℕ) → placeIn (sameWord v) parameters ≡ o → Matches b l y (oneOf parameters o) (foundAs o)
+      by-place none e = matches-nothing refl
+      by-place (some i) e =
+          record { below = omega (arith, place-below (sameWord v) parameters i e, names-length b l (y .parameters)); same = refl }
 
 -- a kind is continuous or not
 pub kinds-agree : (j k : ℕ) → Bool·beq (eqb j 0) (eqb k 0) ≡ eqb (kindNumber (kindOf j)) (kindNumber (kindOf k))

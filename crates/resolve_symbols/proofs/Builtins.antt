@@ -11,8 +11,9 @@ use Rattle.resolving.specs.Builtins.{everyRole, templated, declared}
 use Rattle.resolving.specs.Given.{kindOf}
 use Rattle.resolve_context.specs.declared.Layout.{Layout}
 use Rattle.resolve_symbols.specs.declared.Roles.{Roles}
-use Rattle.resolve_symbols.specs.declared.Source.{Source}
-use Rattle.resolve_symbols.specs.declared.Source.the-variants.{Iiv, Template, TemplateIiv, Nothing, Declared}
+use Rattle.resolve_symbols.specs.declared.Listing.{Listing}
+use Rattle.resolve_symbols.specs.declared.Listing.the-variants.{Iiv, Template, TemplateIiv, Nothing, Declared}
+use Rattle.resolve_symbols.specs.declared.Source.the-variants.{Given}
 use Rattle.resolve_symbols.specs.declared.Looked.{Looked}
 use Rattle.resolve_symbols.specs.declared.Looked.the-variants.{Names, Unknown}
 use Rattle.resolve_symbols.specs.Sources.{
@@ -20,9 +21,8 @@ use Rattle.resolve_symbols.specs.Sources.{
   orNone,
   isSome,
   amongIiv,
-  sourceList,
+  listingNames,
   lookedAs,
-  SourceFits,
   LookedFits,
   Marked,
   MeansAnywhere,
@@ -43,27 +43,26 @@ chosen {y} t {a} {b} {r} {f} {g} e p q = subst (λ (x : Looked). MeansAnywhere y
 pub unknown : {y : Layout} → MeansAnywhere y Unknown (λ c. none)
 unknown = record { fits = λ s. tt; means = λ s c m. refl }
 
-pub is-iiv : {y : Layout} → MeansAnywhere y (Names Iiv) (λ c. some (c .iiv))
+pub is-iiv : {y : Layout} → MeansAnywhere y (Names (Given Iiv)) (λ c. some (c .iiv))
 is-iiv = record { fits = λ s. tt; means = λ s c m. refl }
 
-pub is-nothing : {y : Layout} → MeansAnywhere y (Names Nothing) (λ c. some [])
+pub is-nothing : {y : Layout} → MeansAnywhere y (Names (Given Nothing)) (λ c. some [])
 is-nothing = record { fits = λ s. tt; means = λ s c m. refl }
 
--- a source whose template or block may be missing
-if-marked : {y : Layout} (t : Bool) (x : Source) {r : Looked} (f : Wanted)
-    → r ≡ cond t (Names x) Unknown
-    → ((s : List ℕ) → SourceFits s x)
-    → ((s : List ℕ) (c : Context) → Marked c y → cond t (some (sourceList c s x)) none ≡ f c)
+-- names whose template or block may be missing
+if-marked : {y : Layout} (t : Bool) (x : Listing) {r : Looked} (f : Wanted)
+    → r ≡ cond t (Names (Given x)) Unknown
+    → ((c : Context) → Marked c y → cond t (some (listingNames c x)) none ≡ f c)
     → MeansAnywhere y r f
-if-marked {y} t x {r} f e h g =
+if-marked {y} t x {r} f e g =
     subst (λ (q : Looked). MeansAnywhere y q f) (sym e)
-    (record { fits = λ s. fits s t; means = λ s c m. looked s c t ∙ g s c m })
+    (record { fits = λ s. fits s t; means = λ s c m. looked s c t ∙ g c m })
   where
-    fits : (s : List ℕ) (u : Bool) → LookedFits s (cond u (Names x) Unknown)
-    fits s true = h s
+    fits : (s : List ℕ) (u : Bool) → LookedFits s (cond u (Names (Given x)) Unknown)
+    fits s true = tt
     fits s false = tt
 
-    looked : (s : List ℕ) (c : Context) (u : Bool) → lookedAs c s (cond u (Names x) Unknown) ≡ cond u (some (sourceList c s x)) none
+    looked : (s : List ℕ) (c : Context) (u : Bool) → lookedAs c s (cond u (Names (Given x)) Unknown) ≡ cond u (some (listingNames c x)) none
     looked s c true = refl
     looked s c false = refl
 
@@ -77,16 +76,16 @@ kept-or h g none = refl
 kept-or h g (some a) = refl
 
 module _ {y : Layout} where
-  pub of-template : (q : Roles) → MeansAnywhere y (cond (y .templated) (Names (Template q)) Unknown) (λ c. templated c (ofRoles q))
+  pub of-template : (q : Roles) → MeansAnywhere y (cond (y .templated) (Names (Given (Template q))) Unknown) (λ c. templated c (ofRoles q))
   of-template q =
-      if-marked (y .templated) (Template q) (λ c. templated c (ofRoles q)) refl (λ s. tt)
-      (λ s c m. rw (m .templated) (some-or _ (c .template)))
+      if-marked (y .templated) (Template q) (λ c. templated c (ofRoles q)) refl
+      (λ c m. rw (m .templated) (some-or _ (c .template)))
 
   pub of-template-iiv :
-      MeansAnywhere y (cond (y .templated) (Names TemplateIiv) Unknown) (λ c. Option·map (keep (amongIiv c)) (templated c everyRole))
+      MeansAnywhere y (cond (y .templated) (Names (Given TemplateIiv)) Unknown) (λ c. Option·map (keep (amongIiv c)) (templated c everyRole))
   of-template-iiv =
-      if-marked (y .templated) TemplateIiv (λ c. Option·map (keep (amongIiv c)) (templated c everyRole)) refl (λ s. tt)
-      (λ s c m. rw (m .templated) (kept-or (keep (amongIiv c)) _ (c .template)))
+      if-marked (y .templated) TemplateIiv (λ c. Option·map (keep (amongIiv c)) (templated c everyRole)) refl
+      (λ c m. rw (m .templated) (kept-or (keep (amongIiv c)) _ (c .template)))
 
-  pub of-block : (k : ℕ) → MeansAnywhere y (cond (y .declares) (Names (Declared k)) Unknown) (λ c. declared c (kindOf k))
-  of-block k = if-marked (y .declares) (Declared k) (λ c. declared c (kindOf k)) refl (λ s. tt) (λ s c m. rw (m .declares) (some-or _ (c .block)))
+  pub of-block : (k : ℕ) → MeansAnywhere y (cond (y .declares) (Names (Given (Declared k))) Unknown) (λ c. declared c (kindOf k))
+  of-block k = if-marked (y .declares) (Declared k) (λ c. declared c (kindOf k)) refl (λ c m. rw (m .declares) (some-or _ (c .block)))

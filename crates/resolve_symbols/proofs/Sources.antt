@@ -1,4 +1,4 @@
--- All that the entries of a source's list bring is the source's list of names.
+-- All that the entries of a list bring are the names of the context that are taken.
 -- Assumes nothing.
 use mathlib.Core.Path.{_≡_, refl, _∙_, ap, sym}
 use mathlib.Core.Bool.{Bool, true, false, cond, _&&_, _||_}
@@ -7,8 +7,6 @@ use mathlib.Core.Option.{Option, Option·map}
 use Prim.Native.Nat.{ℕ, zero, suc, _≤_, _<_}
 use native.Mathlib.Omega.{arith}
 use borrow.Author.Tests.{eqb-true}
-use denote.Enum.Declared.{tagOf}
-use types.Run.{OneOf, miss}
 use lib.Dec.{eqb, leb}
 use lib.ListN.{length, getD, drop, drop-of-length-le}
 use lib.Seq.{drop-cons}
@@ -17,7 +15,7 @@ use Rattle.text.proofs.Tests.{and-left, and-right}
 use Rattle.text.specs.Lists.{any, keep, gather, sameBytes}
 use Rattle.resolving.specs.Context.{Context, Binding}
 use Rattle.resolving.specs.Context as context
-use Rattle.resolving.specs.Builtins.{matching, everyRole, ofKind, templated, declared}
+use Rattle.resolving.specs.Builtins.{matching, everyRole, ofKind, templated}
 use Rattle.resolving.specs.Given.{kindOf, onlyIf}
 use Rattle.resolving.specs.Handed.{handedContext}
 use Rattle.text.proofs.Appended.{keep-append}
@@ -43,11 +41,11 @@ use Rattle.resolve_context.proofs.Meaning.{
   declared-step,
   covariates-are,
 }
-use Rattle.resolve_symbols.specs.declared.Source.{Source}
-use Rattle.resolve_symbols.specs.declared.Source.the-variants.{Values, Iiv, Template, TemplateIiv, Nothing, Declared, Covariates}
-use Rattle.resolve_symbols.specs.Sources.{ofRoles, orNone, isSome, sourceList, Marked}
-use Rattle.resolve_symbols.specs.Brings.{fromBinding, fromDeclared, bindingAt, declaredAt, isIiv, listOf, brings, broughtBy}
-use Rattle.resolve_symbols.proofs.Source.{the-type}
+use Rattle.resolve_symbols.specs.declared.Roles.the-variants.{Every}
+use Rattle.resolve_symbols.specs.declared.Listing.{Listing}
+use Rattle.resolve_symbols.specs.declared.Listing.the-variants.{Iiv, Template, TemplateIiv, Nothing, Declared, Covariates}
+use Rattle.resolve_symbols.specs.Sources.{ofRoles, orNone, isSome, listingNames, Marked}
+use Rattle.resolve_symbols.specs.Brings.{fromBinding, fromDeclared, bindingAt, declaredAt, isIiv, fromTemplate, listOf, brings, broughtBy}
 
 -- what a walk over a list brings
 module _ {A : Type 0} (h : A → List (List ℕ)) (e : ℕ → A) (xs : List A)
@@ -187,19 +185,16 @@ module _ (b l : List ℕ) (y : Layout) (st : Stands b l y) where
       of : List context.Declared → List (List ℕ)
       of ds = map (λ d. d .name) (keep p ds)
 
-  -- a source that is no list of values
-  pub source-brought : (s : List ℕ) (x : Source) → OneOf (1 ∷ 2 ∷ 3 ∷ 4 ∷ 5 ∷ 6 ∷ []) (tagOf the-type x)
-      → broughtBy (brings b l y x) (listOf y x .count) ≡ sourceList c s x
-  source-brought s (Values is) k = absurd (miss (1 ∷ 2 ∷ 3 ∷ 4 ∷ 5 ∷ 6 ∷ []) 0 tt k)
-  source-brought s Iiv k = names-brought b l (y .iiv) ∙ sym (iiv-are b l y st)
-  source-brought s (Template r) k = template-brought (ofRoles r)
-  source-brought s TemplateIiv k =
-      brought-kept (isIiv b l y) (λ i. matching parameters (bindingAt b l y i .variable)) (y .template .count)
+  pub listing-brought : (x : Listing) → broughtBy (brings b l y x) (listOf y x .count) ≡ listingNames c x
+  listing-brought Iiv = names-brought b l (y .iiv) ∙ sym (iiv-are b l y st)
+  listing-brought (Template r) = template-brought (ofRoles r)
+  listing-brought TemplateIiv =
+      brought-kept (isIiv b l y) (fromTemplate b l y Every) (y .template .count)
       ∙ ap (keep (isIiv b l y)) (template-brought everyRole)
       ∙ ap (λ (ws : List (List ℕ)). keep (λ v. any (sameBytes v) ws) (orNone (templated c everyRole))) (sym (iiv-are b l y st))
-  source-brought s Nothing k = brought-none 0
-  source-brought s (Declared q) k = declared-brought (ofKind (kindOf q))
-  source-brought s Covariates k = names-brought b l (covariatesOf y) ∙ sym (covariates-are b l y st)
+  listing-brought Nothing = brought-none 0
+  listing-brought (Declared q) = declared-brought (ofKind (kindOf q))
+  listing-brought Covariates = names-brought b l (covariatesOf y) ∙ sym (covariates-are b l y st)
 
   -- what `look_up` asks of a context
   pub stands-marked : Marked c y
@@ -210,8 +205,7 @@ module _ (b l : List ℕ) (y : Layout) (st : Stands b l y) where
       }
 
   -- the list has at most 64 entries
-  pub list-few : (x : Source) → listOf y x .count ≤ 64
-  list-few (Values is) = omega arith
+  pub list-few : (x : Listing) → listOf y x .count ≤ 64
   list-few Iiv = iiv-sound b l y st .few
   list-few (Template r) = roles-sound b l y st .few
   list-few TemplateIiv = roles-sound b l y st .few

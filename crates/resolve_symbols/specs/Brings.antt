@@ -1,6 +1,6 @@
--- The names of a source that stand in the context: what each entry of the source's list brings, by its index. An entry of the template brings
+-- The names that stand in the context: what each entry of a list brings, by its index. An entry of the template brings
 -- the parameter that its variable matches, if its role is asked for; a declared covariate brings itself, if its kind is.
-use Prim.Native.Nat.{ℕ, zero, suc}
+use Prim.Native.Nat.{ℕ, zero, suc, _<_}
 use mathlib.Core.Bool.{Bool, cond}
 use mathlib.Core.List.{List, [], _∷_, _++_}
 use mathlib.Core.Path.{_≡_}
@@ -16,15 +16,18 @@ use Rattle.read_forms.specs.Fits.{InText}
 use Rattle.resolve_context.specs.declared.Names.{Names}
 use Rattle.resolve_context.specs.declared.Layout.{Layout}
 use Rattle.resolve_context.specs.Lists.{listAt, namesIn, kindsIn, variablesOf, covariatesOf}
-use Rattle.resolve_symbols.specs.declared.Source.{Source}
-use Rattle.resolve_symbols.specs.declared.Source.the-variants.{Values, Iiv, Template, TemplateIiv, Nothing, Declared, Covariates}
-use Rattle.resolve_symbols.specs.declared.Brought.{Brought}
-use Rattle.resolve_symbols.specs.declared.Brought.the-variants as brought
+use Rattle.resolve_context.specs.declared.Found.{Found}
+use Rattle.resolve_context.specs.declared.Found.the-variants as found
+use Rattle.resolve_symbols.specs.declared.Roles.{Roles}
+use Rattle.resolve_symbols.specs.declared.Roles.the-variants.{Every}
+use Rattle.resolve_symbols.specs.declared.Listing.{Listing}
+use Rattle.resolve_symbols.specs.declared.Listing.the-variants.{Iiv, Template, TemplateIiv, Nothing, Declared, Covariates}
+use Rattle.resolve_symbols.specs.declared.Named.{Named}
+use Rattle.resolve_symbols.specs.declared.Named.the-variants as named
 use Rattle.resolve_symbols.specs.Sources.{ofRoles}
 
--- the list of a source
-abbrev pub listOf : Layout → Source → Names
-listOf y (Values is) = listAt 0 0 2
+-- the list whose entries are taken
+abbrev pub listOf : Layout → Listing → Names
 listOf y Iiv = y .iiv
 listOf y (Template r) = y .template
 listOf y TemplateIiv = y .template
@@ -52,11 +55,18 @@ module _ (b l : List ℕ) (y : Layout) where
   abbrev pub isIiv : List ℕ → Bool
   isIiv v = any (sameBytes v) (namesIn b l (y .iiv))
 
-  abbrev pub brings : Source → ℕ → List (List ℕ)
-  brings (Values is) i = []
+  -- the parameter at a place that was found
+  abbrev pub parameterAt : Found → List (List ℕ)
+  parameterAt (found.Place i) = entryAt (y .parameters) i ∷ []
+  parameterAt found.Nothing = []
+
+  abbrev pub fromTemplate : Roles → ℕ → List (List ℕ)
+  fromTemplate r i = fromBinding (namesIn b l (y .parameters)) (ofRoles r) (bindingAt i)
+
+  abbrev pub brings : Listing → ℕ → List (List ℕ)
   brings Iiv i = entryAt (y .iiv) i ∷ []
-  brings (Template r) i = fromBinding (namesIn b l (y .parameters)) (ofRoles r) (bindingAt i)
-  brings TemplateIiv i = keep isIiv (matching (namesIn b l (y .parameters)) (bindingAt i .variable))
+  brings (Template r) i = fromTemplate r i
+  brings TemplateIiv i = keep isIiv (fromTemplate Every i)
   brings Nothing i = []
   brings (Declared k) i = fromDeclared (ofKind (kindOf k)) (declaredAt i)
   brings Covariates i = entryAt (covariatesOf y) i ∷ []
@@ -66,19 +76,33 @@ unfoldable pub broughtBy : (ℕ → List (List ℕ)) → ℕ → List (List ℕ)
 broughtBy f zero = []
 broughtBy f (suc n) = broughtBy f n ++ f n
 
+-- a place that was found is one of so many
+abbrev pub FoundBelow : ℕ → Found → Type 0
+FoundBelow n (found.Place i) = i < n
+FoundBelow n found.Nothing = Unit {0}
+
+-- a place of a parameter, or none, for words that are that parameter or none
+pub record Matches (b l : List ℕ) (y : Layout) (words : List (List ℕ)) (r : Found) : Type 0 where
+  pub below : FoundBelow (y .parameters .count) r
+  pub same : parameterAt b l y r ≡ words
+
 -- the bytes of a name, which is a pair into a text or into the block
 abbrev pub spelledIn : List ℕ → Name → List ℕ
 spelledIn s n = nameIn s n .spelling
 
--- what an entry brings, as it is answered
-abbrev pub broughtAs : List ℕ → Brought → List (List ℕ)
-broughtAs b (brought.Pair n) = spelledIn b n ∷ []
-broughtAs b brought.Nothing = []
+-- a name by its mark: its bytes, and that it lies where it says
+module _ (s b : List ℕ) where
+  abbrev pub namedAs : Named → List (List ℕ)
+  namedAs (named.Text n) = spelledIn s n ∷ []
+  namedAs (named.Block n) = spelledIn b n ∷ []
+  namedAs named.Nothing = []
 
-abbrev pub BroughtFits : List ℕ → Brought → Type 0
-BroughtFits b (brought.Pair n) = InText b n
-BroughtFits b brought.Nothing = Unit {0}
+  abbrev pub NamedFits : Named → Type 0
+  NamedFits (named.Text n) = InText s n
+  NamedFits (named.Block n) = InText b n
+  NamedFits named.Nothing = Unit {0}
 
-pub record Yields (b : List ℕ) (words : List (List ℕ)) (r : Brought) : Type 0 where
-  pub fits : BroughtFits b r
-  pub same : broughtAs b r ≡ words
+-- what an entry of the context brings has nothing of a text
+pub record Yields (b : List ℕ) (words : List (List ℕ)) (r : Named) : Type 0 where
+  pub fits : (s : List ℕ) → NamedFits s b r
+  pub same : (s : List ℕ) → namedAs s b r ≡ words

@@ -15,8 +15,10 @@ use Rattle.read_forms.specs.Fits.{Listed}
 use Rattle.resolve_context.specs.declared.Layout.{Layout}
 use Rattle.resolve_symbols.specs.declared.Roles.{Roles}
 use Rattle.resolve_symbols.specs.declared.Roles.the-variants.{Every, Absorption, Elimination, Distribution, Bioavail}
+use Rattle.resolve_symbols.specs.declared.Listing.{Listing}
+use Rattle.resolve_symbols.specs.declared.Listing.the-variants.{Iiv, Template, TemplateIiv, Nothing, Declared, Covariates}
 use Rattle.resolve_symbols.specs.declared.Source.{Source}
-use Rattle.resolve_symbols.specs.declared.Source.the-variants.{Values, Iiv, Template, TemplateIiv, Nothing, Declared, Covariates}
+use Rattle.resolve_symbols.specs.declared.Source.the-variants.{Values, Given}
 use Rattle.resolve_symbols.specs.declared.Looked.{Looked}
 use Rattle.resolve_symbols.specs.declared.Looked.the-variants.{Names, Unknown}
 
@@ -38,15 +40,18 @@ orNone (some ws) = ws
 abbrev pub amongIiv : Context → List ℕ → Bool
 amongIiv c v = any (sameBytes v) (c .iiv)
 
--- its names; without a template or a block, those of it are none
+-- the names of the context that are taken; without a template or a block, those of it are none
+abbrev pub listingNames : Context → Listing → List (List ℕ)
+listingNames c Iiv = c .iiv
+listingNames c (Template r) = orNone (templated c (ofRoles r))
+listingNames c TemplateIiv = keep (amongIiv c) (orNone (templated c everyRole))
+listingNames c Nothing = []
+listingNames c (Declared k) = orNone (declared c (kindOf k))
+listingNames c Covariates = covariates c
+
 abbrev pub sourceList : Context → List ℕ → Source → List (List ℕ)
 sourceList c s (Values is) = map (λ i. i .name .spelling) (itemsIn s is)
-sourceList c s Iiv = c .iiv
-sourceList c s (Template r) = orNone (templated c (ofRoles r))
-sourceList c s TemplateIiv = keep (amongIiv c) (orNone (templated c everyRole))
-sourceList c s Nothing = []
-sourceList c s (Declared k) = orNone (declared c (kindOf k))
-sourceList c s Covariates = covariates c
+sourceList c s (Given x) = listingNames c x
 
 -- the names of a symbol, or none
 abbrev pub lookedAs : Context → List ℕ → Looked → Option (List (List ℕ))
@@ -56,12 +61,7 @@ lookedAs c s (Names x) = some (sourceList c s x)
 -- values can be read again
 abbrev pub SourceFits : List ℕ → Source → Type 0
 SourceFits s (Values is) = Listed s is
-SourceFits s Iiv = Unit {0}
-SourceFits s (Template r) = Unit {0}
-SourceFits s TemplateIiv = Unit {0}
-SourceFits s Nothing = Unit {0}
-SourceFits s (Declared k) = Unit {0}
-SourceFits s Covariates = Unit {0}
+SourceFits s (Given x) = Unit {0}
 
 abbrev pub LookedFits : List ℕ → Looked → Type 0
 LookedFits s Unknown = Unit {0}

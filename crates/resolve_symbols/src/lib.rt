@@ -1,5 +1,5 @@
 // What a symbol stands for. "A symbol is looked up among the LETs, then among the built-ins of `builtin`, ignoring ASCII case." What is found
-// is a source of names; each of its names is a pair into the text or into the context's block before it becomes an index (`operands`).
+// is a source of names; each of its names is a pair into the text or into the context's block before it becomes an index (`resolve_operands`).
 ghost use mathlib.Core.Path.{_≡_};
 ghost use mathlib.Core.Bool.{cond};
 ghost use mathlib.Core.List.{map};
@@ -18,8 +18,8 @@ ghost use Rattle.read_forms.specs.Items.{nameIn, itemsIn};
 ghost use Rattle.read_forms.specs.Fits.{InText, Listed};
 ghost use Rattle.resolve_context.specs.Lists.{Stands, foundAs, listAt};
 ghost use Rattle.resolve_symbols.specs.Lets.{keyAt, valuesAt, definitionAt, definitionsIn, lastLet, hasKey, LetsFit, LetPut};
-ghost use Rattle.resolve_symbols.specs.Sources.{roleOf, sourceList, SourceFits, LookedFits, Means, MeansAnywhere};
-ghost use Rattle.resolve_symbols.specs.Brings.{listOf, isIiv, brings, broughtBy, broughtAs, BroughtFits, Yields};
+ghost use Rattle.resolve_symbols.specs.Sources.{roleOf, LookedFits, Means, MeansAnywhere};
+ghost use Rattle.resolve_symbols.specs.Brings.{listOf, isIiv, parameterAt, fromTemplate, brings, FoundBelow, Matches, Yields};
 use read_forms::Items;
 use read_forms::Name;
 use resolve_context::Found;
@@ -39,10 +39,8 @@ pub enum Roles {
     Bioavail,
 }
 
-// What an operand or a symbol stands for: the values of a LET, or names of the context. A declared covariate's kind is a number, 0 continuous
-// or 1 categorical.
-pub enum Source {
-    Values(Items),
+// A list of the context, and which of its entries are taken. A declared covariate's kind is a number, 0 continuous or 1 categorical.
+pub enum Listing {
     Iiv,
     Template(Roles),
     TemplateIiv,
@@ -51,14 +49,21 @@ pub enum Source {
     Covariates,
 }
 
+// What an operand or a symbol stands for: values that are written in the text, or names of the context that was given.
+pub enum Source {
+    Values(Items),
+    Given(Listing),
+}
+
 pub enum Looked {
     Names(Source),
     Unknown,
 }
 
-// What an entry of a list brings: a name of the block, or none.
-pub enum Brought {
-    Pair(Name),
+// A name before it is an index: a pair into the text or into the context's block, by its mark; or nothing, where an entry brings none.
+pub enum Named {
+    Text(Name),
+    Block(Name),
     Nothing,
 }
 
@@ -138,14 +143,14 @@ pub fn has_let(text: &[u8], lets: &[u32], n: usize, key: Name) -> bool
 }
 
 // A built-in of this name, if what it needs is there; for any other word, the other answer.
-fn if_word(word: &[u8], name: &[u8], there: bool, source: Source, other: Looked) -> Looked
-    ensures { λ r. ⌜ r ≡ cond (sameWord (now (word .entry)) (now (name .entry))) (cond there (Looked.Names source) Looked.Unknown) other ⌝ }
+fn if_word(word: &[u8], name: &[u8], there: bool, listing: Listing, other: Looked) -> Looked
+    ensures { λ r. ⌜ r ≡ cond (sameWord (now (word .entry)) (now (name .entry))) (cond there (Looked.Names (Source.Given listing)) Looked.Unknown) other ⌝ }
 {
     if !labels::same_word(word, name) {
         return other;
     }
     if there {
-        return Looked::Names(source);
+        return Looked::Names(Source::Given(listing));
     }
     Looked::Unknown
 }
@@ -157,41 +162,41 @@ fn builtin(layout: Layout, word: &[u8]) -> Looked
     let block = layout.declares;
     let template = layout.templated;
     let r = Looked::Unknown;
-    let r = if_word(word, b"CATEGORICAL", block, Source::Declared(1), r);
-    let r = if_word(word, b"CONTINUOUS", block, Source::Declared(0), r);
+    let r = if_word(word, b"CATEGORICAL", block, Listing::Declared(1), r);
+    let r = if_word(word, b"CONTINUOUS", block, Listing::Declared(0), r);
     let r = if_word(
         word,
         b"BIOAVAIL",
         template,
-        Source::Template(Roles::Bioavail),
+        Listing::Template(Roles::Bioavail),
         r,
     );
     let r = if_word(
         word,
         b"DISTRIBUTION",
         template,
-        Source::Template(Roles::Distribution),
+        Listing::Template(Roles::Distribution),
         r,
     );
     let r = if_word(
         word,
         b"ELIMINATION",
         template,
-        Source::Template(Roles::Elimination),
+        Listing::Template(Roles::Elimination),
         r,
     );
     let r = if_word(
         word,
         b"ABSORPTION",
         template,
-        Source::Template(Roles::Absorption),
+        Listing::Template(Roles::Absorption),
         r,
     );
-    let r = if_word(word, b"PD_IIV", true, Source::Nothing, r);
-    let r = if_word(word, b"PD", true, Source::Nothing, r);
-    let r = if_word(word, b"PK_IIV", template, Source::TemplateIiv, r);
-    let r = if_word(word, b"PK", template, Source::Template(Roles::Every), r);
-    if_word(word, b"IIV", true, Source::Iiv, r)
+    let r = if_word(word, b"PD_IIV", true, Listing::Nothing, r);
+    let r = if_word(word, b"PD", true, Listing::Nothing, r);
+    let r = if_word(word, b"PK_IIV", template, Listing::TemplateIiv, r);
+    let r = if_word(word, b"PK", template, Listing::Template(Roles::Every), r);
+    if_word(word, b"IIV", true, Listing::Iiv, r)
 }
 
 // What a symbol stands for: the last LET of that key, or the built-in.
@@ -250,49 +255,58 @@ fn same_kind(one: u32, other: u32) -> bool
     (one == 0) == (other == 0)
 }
 
-// The parameter that a variable of the template matches, if its role is one of these.
-fn of_template(block: &[u8], lists: &[u32], layout: Layout, roles: Roles, index: usize) -> Brought
+// The place of the parameter that a variable of the template matches, if its role is one of these.
+fn of_template(block: &[u8], lists: &[u32], layout: Layout, roles: Roles, index: usize) -> Found
     requires { ⌜ Stands (now block) (now lists) layout × (index < layout .template .count) ⌝ }
-    ensures { λ r. ⌜ Yields (now (block .entry)) (brings (now (block .entry)) (now (lists .entry)) layout (Source.Template roles) index) r ⌝ }
+    ensures { λ r. ⌜ Matches (now (block .entry)) (now (lists .entry)) layout
+        (fromTemplate (now (block .entry)) (now (lists .entry)) layout roles index) r ⌝ }
 {
     let template = layout.template;
     let role = name_at(block, lists, template, index);
     if !has_role(roles, role) {
-        return Brought::Nothing;
+        return Found::Nothing;
     }
     let variable = name_at(block, lists, resolve_context::variables_of(template), index);
-    let parameters = layout.parameters;
-    match resolve_context::match_of(block, lists, parameters, variable) {
-        Found::Place(place) => Brought::Pair(pair_at(block, lists, parameters, place)),
-        Found::Nothing => Brought::Nothing,
+    resolve_context::match_of(block, lists, layout.parameters, variable)
+}
+
+// The place of a parameter that was found, if it is an IIV parameter too.
+fn if_iiv(block: &[u8], lists: &[u32], layout: Layout, found: Found) -> Found
+    requires { ⌜ Stands (now block) (now lists) layout × FoundBelow (layout .parameters .count) found ⌝ }
+    ensures { λ r. ⌜ Matches (now (block .entry)) (now (lists .entry)) layout
+        (keep (isIiv (now (block .entry)) (now (lists .entry)) layout) (parameterAt (now (block .entry)) (now (lists .entry)) layout found)) r ⌝ }
+{
+    let Found::Place(place) = found else {
+        return Found::Nothing;
+    };
+    let name = name_at(block, lists, layout.parameters, place);
+    match resolve_context::index_of(block, lists, layout.iiv, name) {
+        Found::Place(index) => Found::Place(place),
+        Found::Nothing => Found::Nothing,
     }
 }
 
-// What is brought, if it is an IIV parameter.
-fn if_iiv(block: &[u8], lists: &[u32], layout: Layout, brought: Brought) -> Brought
-    requires { ⌜ Stands (now block) (now lists) layout × BroughtFits (now block) brought ⌝ }
-    ensures { λ r. ⌜ Yields (now (block .entry))
-        (keep (isIiv (now (block .entry)) (now (lists .entry)) layout) (broughtAs (now (block .entry)) brought)) r ⌝ }
+// The name of a parameter that was found.
+fn parameter(block: &[u8], lists: &[u32], layout: Layout, found: Found) -> Named
+    requires { ⌜ Stands (now block) (now lists) layout × FoundBelow (layout .parameters .count) found ⌝ }
+    ensures { λ r. ⌜ Yields (now (block .entry)) (parameterAt (now (block .entry)) (now (lists .entry)) layout found) r ⌝ }
 {
-    let Brought::Pair(name) = brought else {
-        return Brought::Nothing;
-    };
-    match resolve_context::index_of(block, lists, layout.iiv, read_forms::spelling(block, name)) {
-        Found::Place(place) => Brought::Pair(name),
-        Found::Nothing => Brought::Nothing,
+    match found {
+        Found::Place(place) => Named::Block(pair_at(block, lists, layout.parameters, place)),
+        Found::Nothing => Named::Nothing,
     }
 }
 
 // A declared covariate, if it is of the kind.
-fn of_kind(block: &[u8], lists: &[u32], layout: Layout, kind: u32, index: usize) -> Brought
+fn of_kind(block: &[u8], lists: &[u32], layout: Layout, kind: u32, index: usize) -> Named
     requires { ⌜ Stands (now block) (now lists) layout × (index < layout .declared .count) ⌝ }
-    ensures { λ r. ⌜ Yields (now (block .entry)) (brings (now (block .entry)) (now (lists .entry)) layout (Source.Declared kind) index) r ⌝ }
+    ensures { λ r. ⌜ Yields (now (block .entry)) (brings (now (block .entry)) (now (lists .entry)) layout (Listing.Declared kind) index) r ⌝ }
 {
     let declared = layout.declared;
     if same_kind(kind, resolve_context::kind_at(lists, declared, index)) {
-        return Brought::Pair(pair_at(block, lists, declared, index));
+        return Named::Block(pair_at(block, lists, declared, index));
     }
-    Brought::Nothing
+    Named::Nothing
 }
 
 // A list with no entries.
@@ -306,39 +320,40 @@ fn no_list() -> Names
     }
 }
 
-// The list whose entries a source takes.
-pub fn list_of(layout: Layout, source: Source) -> Names
-    ensures { λ r. ⌜ r ≡ listOf layout source ⌝ }
+// The list whose entries are taken.
+pub fn list_of(layout: Layout, listing: Listing) -> Names
+    ensures { λ r. ⌜ r ≡ listOf layout listing ⌝ }
 {
-    match source {
-        Source::Values(items) => no_list(),
-        Source::Iiv => layout.iiv,
-        Source::Template(roles) => layout.template,
-        Source::TemplateIiv => layout.template,
-        Source::Nothing => no_list(),
-        Source::Declared(kind) => layout.declared,
-        Source::Covariates => resolve_context::covariates(layout),
+    match listing {
+        Listing::Iiv => layout.iiv,
+        Listing::Template(roles) => layout.template,
+        Listing::TemplateIiv => layout.template,
+        Listing::Nothing => no_list(),
+        Listing::Declared(kind) => layout.declared,
+        Listing::Covariates => resolve_context::covariates(layout),
     }
 }
 
-// What an entry of the source's list brings.
-pub fn bring(block: &[u8], lists: &[u32], layout: Layout, source: Source, index: usize) -> Brought
-    requires { ⌜ Stands (now block) (now lists) layout × (index < listOf layout source .count) ⌝ }
-    ensures { λ r. ⌜ Yields (now (block .entry)) (brings (now (block .entry)) (now (lists .entry)) layout source index) r ⌝ }
+// What an entry of the list brings.
+pub fn bring(block: &[u8], lists: &[u32], layout: Layout, listing: Listing, index: usize) -> Named
+    requires { ⌜ Stands (now block) (now lists) layout × (index < listOf layout listing .count) ⌝ }
+    ensures { λ r. ⌜ Yields (now (block .entry)) (brings (now (block .entry)) (now (lists .entry)) layout listing index) r ⌝ }
 {
-    match source {
-        Source::Values(items) => Brought::Nothing,
-        Source::Iiv => Brought::Pair(pair_at(block, lists, layout.iiv, index)),
-        Source::Template(roles) => of_template(block, lists, layout, roles, index),
-        Source::TemplateIiv => {
-            let brought = of_template(block, lists, layout, Roles::Every, index);
-            if_iiv(block, lists, layout, brought)
+    match listing {
+        Listing::Iiv => Named::Block(pair_at(block, lists, layout.iiv, index)),
+        Listing::Template(roles) => {
+            let found = of_template(block, lists, layout, roles, index);
+            parameter(block, lists, layout, found)
         }
-        Source::Nothing => Brought::Nothing,
-        Source::Declared(kind) => of_kind(block, lists, layout, kind, index),
-        Source::Covariates => {
+        Listing::TemplateIiv => {
+            let found = of_template(block, lists, layout, Roles::Every, index);
+            parameter(block, lists, layout, if_iiv(block, lists, layout, found))
+        }
+        Listing::Nothing => Named::Nothing,
+        Listing::Declared(kind) => of_kind(block, lists, layout, kind, index),
+        Listing::Covariates => {
             let names = resolve_context::covariates(layout);
-            Brought::Pair(pair_at(block, lists, names, index))
+            Named::Block(pair_at(block, lists, names, index))
         }
     }
 }

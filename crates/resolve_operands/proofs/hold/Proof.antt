@@ -17,12 +17,13 @@ use Rattle.read_forms.specs.declared.Items.{Items}
 use Rattle.resolve_context.specs.Lists.{namesIn}
 use Rattle.resolve_context.proofs.Pairs.{names-length}
 use Rattle.resolve_symbols.specs.Sources.{sourceList}
-use Rattle.resolve_symbols.specs.Brings.{broughtBy}
+use Rattle.resolve_symbols.specs.Brings.{broughtBy, namedAs}
 use Rattle.resolve_operands.specs.declared.Entries.{Entries}
+use Rattle.resolve_operands.specs.declared.Placed.{Placed}
 use Rattle.resolve_operands.specs.Picked.{PickedAs}
-use Rattle.resolve_operands.specs.Named.{namedAs, extentOf, namesAt, EntryAt}
+use Rattle.resolve_operands.specs.Named.{extentOf, namesAt, EntryAt, Word, PlacedAs}
 use Rattle.resolve_operands.proofs.Bringing.{HeldSoFar, brings-none, brings-picked, brings-pair, brings-nothing, brings-missing, brings-end}
-use Rattle.resolve_operands.proofs.Naming.{Word, all-named, extent-few, first-read, placed-at, placed-missing, no-name}
+use Rattle.resolve_operands.proofs.Naming.{all-named, extent-few, first-read}
 use Rattle.resolve_operands.proofs.hold.Statement.{statement}
 use Rattle.resolve_operands.proofs.hold.Tie as tie
 
@@ -108,7 +109,7 @@ next-name-requires c κs =
 place-of-requires : tie.Need-place-of-requires Inv-loop μ-loop
 place-of-requires c κs = (begun (c .before .before) .pre .3, c .next-name .ensures .fits)
 
--- the word of a name that is found, and of one that is missing
+-- what looking the name up says of it
 module _ (c : tie.After-place-of Inv-loop μ-loop) where
   abbrev turn : tie.In-loop Inv-loop μ-loop
   turn = c .before .before
@@ -119,6 +120,9 @@ module _ (c : tie.After-place-of Inv-loop μ-loop) where
   abbrev names : List (List ℕ)
   names = namedAs (now (top .args .text)) (now (top .args .block)) (c .before .next-name .result .named)
 
+  looked-up : {r : Placed} → c .place-of .result ≡ r → PlacedAs (entries top) names r
+  looked-up e = subst (PlacedAs (entries top) names) e (c .place-of .ensures)
+
   -- what the entry brings
   here : {ws : List (List ℕ)} → names ≡ ws → each top (turn .before .loop .i) ≡ ws
   here e = sym (c .before .next-name .ensures .same) ∙ e
@@ -127,10 +131,7 @@ abbrev looked : tie.After-place Inv-loop μ-loop → tie.After-place-of Inv-loop
 looked p = p .before .before
 
 placed : (p : tie.After-place Inv-loop μ-loop) → Word (entries (top (looked p))) (names (looked p)) (some (p .place .given .0 .0))
-placed p =
-    let c = looked p in
-    placed-at _ (now (top c .args .text)) (now (top c .args .block)) (c .before .next-name .result .named) _
-    (sym (c .place-of .ensures) ∙ p .place .given .1)
+placed p = looked-up (looked p) (p .place .given .1)
 
 place-small : (p : tie.After-place Inv-loop μ-loop) → p .place .given .0 .0 < 64
 place-small p =
@@ -169,9 +170,7 @@ returns c =
     let d = c .before .before in
     let t = turn d in
     let l = t .before in
-    let w =
-    placed-missing _ (now (top d .args .text)) (now (top d .args .block)) (d .before .next-name .result .named)
-    (sym (d .place-of .ensures) ∙ c .enum-told .given .1) in (
+    let w = looked-up d (c .enum-told .given .1) in (
       picked l _ refl,
       brings-missing (entries (top d)) (each (top d)) (l .loop .indexes) (l .loop .n) (l .loop .i) (l .loop .inv .0) (w .word) (all (top d)) (below t)
           (here d (w .are)) (w .found)
@@ -184,9 +183,7 @@ loop-again-2 c =
     let t = turn d in
     let l = t .before in (
       brings-nothing (entries (top d)) (each (top d)) (l .loop .indexes) (l .loop .n) (l .loop .i) (l .loop .inv .0)
-          (here d
-          (no-name (entries (top d)) (now (top d .args .text)) (now (top d .args .block)) (d .before .next-name .result .named)
-          (sym (d .place-of .ensures) ∙ c .before .enum-told2 .given .1))),
+          (here d (looked-up d (c .before .enum-told2 .given .1))),
       d .before .next-name .ensures .behind,
       omega (arith, t .loop-test .taken),
     )

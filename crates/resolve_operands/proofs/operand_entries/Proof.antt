@@ -18,7 +18,6 @@ use Rattle.resolve_symbols.specs.declared.Source.{Source}
 use Rattle.resolve_symbols.specs.declared.Looked.{Looked}
 use Rattle.resolve_symbols.specs.declared.Looked.the-variants as looked
 use Rattle.resolve_symbols.specs.Sources.{sourceList, SourceFits, lookedAs, LookedFits}
-use Rattle.resolve_symbols.proofs.Sources.{source-brought}
 use Rattle.resolve_operands.specs.Picked.{PickedAs}
 use Rattle.resolve_operands.specs.Entries.{targetOf, StandsFor, operandNames, parametersIn, covariatesIn}
 use Rattle.resolve_operands.proofs.Sources.{none-picked, target-sound, operand-held}

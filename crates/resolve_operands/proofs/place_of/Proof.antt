@@ -1,52 +1,52 @@
 -- `resolve_operands::place_of` meets its contract: the word that is looked up is the name's, by its mark. Assumes nothing.
-use mathlib.Core.Path.{_≡_, sym, ap, _∙_, subst}
+use mathlib.Core.Path.{_≡_, refl, sym, ap, _∙_, subst}
 use mathlib.Core.List.{List, [], _∷_}
 use Prim.Native.Nat.{ℕ}
 use denote.Ref.{now}
 use borrow.Author.Needs.{needs}
-use Rattle.text.specs.Lists.{placeIn, sameBytes}
-use Rattle.resolve_context.specs.Lists.{namesIn, foundAs}
-use Rattle.resolve_symbols.specs.Brings.{spelledIn}
-use Rattle.resolve_operands.specs.declared.Named.{Named}
-use Rattle.resolve_operands.specs.Named.{namedAs, NamedFits, placedAs}
+use Rattle.resolve_context.specs.Lists.{namesIn}
+use Rattle.resolve_symbols.specs.declared.Named.{Named}
+use Rattle.resolve_symbols.specs.Brings.{namedAs, NamedFits}
+use Rattle.resolve_operands.specs.declared.Placed.{Placed}
+use Rattle.resolve_operands.specs.declared.Placed.the-variants.{NoName}
+use Rattle.resolve_operands.specs.Named.{PlacedAs}
 use Rattle.resolve_operands.proofs.place_of.Statement.{statement}
 use Rattle.resolve_operands.proofs.place_of.Tie as tie
 
-module _ (c : tie.After-shared-slice-known3) where
+module _ (c : tie.After-shared-slice-known3) {x : Named} (e : c .before .before .before .args .named ≡ x) where
   abbrev start : tie.Start
   start = c .before .before .before
 
-  abbrev list : List (List ℕ)
-  list = let a = start .args in namesIn (now (a .block)) (now (a .lists)) (a .target)
+  fits-so : let a = start .args in NamedFits (now (a .text)) (now (a .block)) x
+  fits-so = let a = start .args in subst (NamedFits (now (a .text)) (now (a .block))) e (start .pre .1)
 
-  -- what is answered of the name, whichever it is
-  named-so : {x : Named} → start .args .named ≡ x
+  -- what is answered of a word is answered of the name that is spelled so
+  spelled-so : (ws : List (List ℕ)) (r : Placed)
       → let a = start .args in
-      placedAs list (namedAs (now (a .text)) (now (a .block)) x) ≡ placedAs list (namedAs (now (a .text)) (now (a .block)) (a .named))
-  named-so e = let a = start .args in ap (λ (x : Named). placedAs list (namedAs (now (a .text)) (now (a .block)) x)) (sym e)
+      ws ≡ namedAs (now (a .text)) (now (a .block)) x
+      → let list = namesIn (now (a .block)) (now (a .lists)) (a .target) in
+      PlacedAs list ws r → PlacedAs list (namedAs (now (a .text)) (now (a .block)) (a .named)) r
+  spelled-so ws r w =
+      let a = start .args in
+      subst (λ (vs : List (List ℕ)). PlacedAs (namesIn (now (a .block)) (now (a .lists)) (a .target)) vs r)
+      (w ∙ ap (namedAs (now (a .text)) (now (a .block))) (sym e))
 
-  fits-so : {x : Named} → start .args .named ≡ x → let a = start .args in NamedFits (now (a .text)) (now (a .block)) x
-  fits-so e = let a = start .args in subst (NamedFits (now (a .text)) (now (a .block))) e (start .pre .1)
-
-  -- a word is looked up as it is spelled
-  looked-so : (w v : List ℕ) → w ≡ v → foundAs (placeIn (sameBytes w) list) ≡ foundAs (placeIn (sameBytes v) list)
-  looked-so w v e = ap (λ (u : List ℕ). foundAs (placeIn (sameBytes u) list)) e
+abbrev one : List ℕ → List (List ℕ)
+one w = w ∷ []
 
 returns : tie.Need-returns
 returns c =
-    let i = c .before in
-    let n = i .before .before .before in
-    let t = n .before .before in
-    let o = placeIn (sameBytes (spelledIn (now (start t .args .text)) (n .named .given .0 .0))) (list t) in
-    c .placed-by .ensures o (i .index-of .ensures ∙ looked-so t _ _ (i .before .spelling .ensures)) ∙ named-so t (n .named .given .1)
+    let n = c .before .before .before in
+    let s = c .before .spelling in
+    spelled-so (n .before .before) (n .named .given .1) (one (now (s .result))) (c .place-of-word .result) (ap one (s .ensures))
+    (c .place-of-word .ensures)
 
 returns-2 : tie.Need-returns-2
 returns-2 c =
-    let i = c .before in
-    let n = i .before .before .before in
-    let t = n .before .before in
-    let o = placeIn (sameBytes (spelledIn (now (start t .args .block)) (n .named2 .given .0 .0))) (list t) in
-    c .placed-by2 .ensures o (i .index-of2 .ensures ∙ looked-so t _ _ (i .before .spelling2 .ensures)) ∙ named-so t (n .named2 .given .1)
+    let n = c .before .before .before in
+    let s = c .before .spelling2 in
+    spelled-so (n .before .before) (n .named2 .given .1) (one (now (s .result))) (c .place-of-word2 .result) (ap one (s .ensures))
+    (c .place-of-word2 .ensures)
 
 pub place-of-spec : {M : Type 1} → statement M
 place-of-spec =
@@ -54,13 +54,11 @@ place-of-spec =
     (tie.spec
     (λ c. search needs)
     (λ c κs. fits-so (c .before .before .before) (c .before .named .given .1))
-    (λ c κs. start (c .before .before .before .before) .pre .0)
     (λ c κs. search needs)
     (λ c. search needs)
     (λ c κs. fits-so (c .before .before .before) (c .before .named2 .given .1))
-    (λ c κs. start (c .before .before .before .before) .pre .0)
     (λ c κs. search needs)
     (λ c. search needs)
     returns
     returns-2
-    (λ c. named-so (c .before .before) (c .enum-told .given .1)))
+    (λ c. spelled-so (c .before .before) (c .enum-told .given .1) [] NoName refl refl))

@@ -11,7 +11,8 @@ use Rattle.resolving.specs.Context.{Context}
 use Rattle.read_forms.specs.declared.Operand.{Operand}
 use Rattle.read_parts.specs.Meaning.{OperandFits}
 use Rattle.resolve_symbols.specs.declared.Looked.the-variants.{Names}
-use Rattle.resolve_symbols.specs.declared.Source.the-variants.{Values, Covariates}
+use Rattle.resolve_symbols.specs.declared.Source.the-variants.{Values, Given}
+use Rattle.resolve_symbols.specs.declared.Listing.the-variants.{Covariates}
 use Rattle.resolve_operands.specs.Entries.{StandsFor, starNames, operandNames}
 use Rattle.resolve_operands.proofs.Sources.{star-stands, every-stands, word-stands, names-stand, stands-same}
 use Rattle.resolve_operands.proofs.source_of.Statement.{statement}
@@ -48,7 +49,7 @@ returns-2 c =
     let s = c .before .before .before .before .before .before in
     let a = s .args in (
       tt,
-      stands-same (now (a .text)) (a .layout) (Names Covariates) (names s) (c .before .enum-told .given .1)
+      stands-same (now (a .text)) (a .layout) (Names (Given Covariates)) (names s) (c .before .enum-told .given .1)
           (every-stands (now (a .text)) (now (a .lets)) (a .n) (a .layout) (now (a .star)) (a .every) (c .if1 .taken)),
     )
 

@@ -1,21 +1,18 @@
--- `resolve_symbols::of_template` meets its contract: the role is tested, and the first parameter is taken that the variable matches. Assumes nothing.
+-- `resolve_symbols::of_template` meets its contract: the role is tested, and the first parameter is found that the variable matches. Assumes nothing.
 use mathlib.Core.Path.{_≡_, _∙_, ap, sym, subst}
 use mathlib.Core.List.{List, []}
 use Prim.Native.Nat.{ℕ, _<_}
-use native.Mathlib.Omega.{arith}
 use borrow.Author.Needs.{needs}
 use borrow.Author.Tests.{not-true, not-false}
 use denote.Ref.{now}
 use lib.ListN.{getD}
 use Rattle.resolving.specs.Context.{Binding}
-use Rattle.resolving.specs.Builtins.{matching}
 use Rattle.resolve_context.specs.declared.Names.{Names}
 use Rattle.resolve_context.specs.Lists.{Sound, namesIn}
-use Rattle.resolve_context.proofs.Pairs.{names-length}
 use Rattle.resolve_context.proofs.Meaning.{roles-sound, variables-sound, parameters-sound, template-near}
 use Rattle.resolve_symbols.specs.Sources.{roleOf, ofRoles}
-use Rattle.resolve_symbols.specs.Brings.{fromBinding, bindingAt}
-use Rattle.resolve_symbols.proofs.Brings.{yields-nothing, yields-pair, binding-taken, binding-left, matched, unmatched, match-below}
+use Rattle.resolve_symbols.specs.Brings.{bindingAt, Matches}
+use Rattle.resolve_symbols.proofs.Brings.{binding-taken, binding-left, matches-nothing, match-found}
 use Rattle.resolve_symbols.proofs.of_template.Statement.{statement}
 use Rattle.resolve_symbols.proofs.of_template.Tie as tie
 
@@ -45,7 +42,8 @@ module _ (c : tie.After-has-role) where
 returns : tie.Need-returns
 returns c =
     let r = c .before in
-    yields-nothing (binding-left (parameters r) (ofRoles (start r .args .roles)) (entry r) (sym (tested r) ∙ not-true _ (c .if1 .taken)))
+    matches-nothing (block r) (lists r) (start r .args .layout)
+    (binding-left (parameters r) (ofRoles (start r .args .roles)) (entry r) (sym (tested r) ∙ not-true _ (c .if1 .taken)))
 
 variables-of-requires : tie.Need-variables-of-requires
 variables-of-requires c κs = template-near _ _ _ (start (c .before) .pre .0)
@@ -57,42 +55,18 @@ name-at-requires-2 c κs =
     (s .pre .1, variables-sound _ _ _ (s .pre .0))
 
 match-of-requires : tie.Need-match-of-requires
-match-of-requires c κs = parameters-sound _ _ _ (start (c .before .before .before .before) .pre .0)
-
-module _ (c : tie.After-match-of) where
-  abbrev role : tie.After-has-role
-  role = c .before .before .before .before .before
-
-  -- the variable that was looked for is the entry's
-  variable : now (c .before .before .name-at2 .result) ≡ entry role .variable
-  variable =
-      c .before .before .name-at2 .ensures
-      ∙ ap (λ (n : Names). getD (namesIn (block role) (lists role) n) (start role .args .index) []) (c .before .before .before .variables-of .ensures)
-
-  -- its role is asked for
-  taken : fromBinding (parameters role) (ofRoles (start role .args .roles)) (entry role) ≡ matching (parameters role) (entry role .variable)
-  taken =
-      binding-taken (parameters role) (ofRoles (start role .args .roles)) (entry role)
-      (sym (tested role) ∙ not-false _ (c .before .before .before .before .if1 .left))
-
-pair-at-requires : tie.Need-pair-at-requires
-pair-at-requires c κs =
-    let m = c .before .before .before in
-    let s = start (role m) in
-    let below = match-below (parameters (role m)) (variable m) (m .match-of .ensures) (c .before .place .given .1) in
-    (omega (arith, below, names-length (block (role m)) (lists (role m)) (s .args .layout .parameters)), parameters-sound _ _ _ (s .pre .0))
+match-of-requires c κs = parameters-sound _ _ _ (start (c .before .before .before) .pre .0)
 
 returns-2 : tie.Need-returns-2
 returns-2 c =
-    let m = c .before .before .before .before in
-    let p = c .before .before .place .given in
-    yields-pair (getD (parameters (role m)) (p .0 .0) []) (c .pair-at .ensures .0) (c .pair-at .ensures .1)
-    (taken m ∙ matched (parameters (role m)) (variable m) (m .match-of .ensures) (p .1))
-
-returns-3 : tie.Need-returns-3
-returns-3 c =
-    let m = c .before .before in
-    yields-nothing (taken m ∙ unmatched (parameters (role m)) (variable m) (m .match-of .ensures) (c .enum-told .given .1))
+    let v = c .before in
+    let i = v .before .before in
+    let r = i .before in
+    let own =
+    v .name-at2 .ensures ∙ ap (λ (n : Names). getD (namesIn (block r) (lists r) n) (start r .args .index) []) (v .before .variables-of .ensures) in
+    subst (λ (ws : List (List ℕ)). Matches (block r) (lists r) (start r .args .layout) ws (c .match-of .result))
+    (sym (binding-taken (parameters r) (ofRoles (start r .args .roles)) (entry r) (sym (tested r) ∙ not-false _ (i .if1 .left))))
+    (match-found (block r) (lists r) (start r .args .layout) own (c .match-of .ensures))
 
 pub of-template-spec : {M : Type 1} → statement M
 of-template-spec =
@@ -104,8 +78,4 @@ of-template-spec =
     variables-of-requires
     name-at-requires-2
     match-of-requires
-    (λ c. search needs)
-    pair-at-requires
-    (λ c. search needs)
-    returns-2
-    returns-3)
+    returns-2)
