@@ -7,7 +7,7 @@ use mathlib.Core.Bool.{Bool, true, false, cond}
 use mathlib.Core.List.{List, [], _∷_, map}
 use mathlib.Core.Option.{Option, some, none}
 use borrow.Author.Tests.{lt-ltb}
-use lib.ListN.{length, take, getD}
+use lib.ListN.{length, getD}
 use Rattle.text.specs.Bytes.{bytes}
 use Rattle.reading.specs.Statement.{Operand, Operator, multiply, add, Covariate}
 use Rattle.reading.specs.Answer.{Answer, accepted, refused}
@@ -22,16 +22,13 @@ use Rattle.resolving.specs.Symbols.{Meaning}
 use Rattle.resolving.specs.Operands.{parametersOf, covariatesOf}
 use Rattle.resolving.specs.Effects.{Effect, formsOf, effectsOf, against, optionalNumber, operatorNumber}
 use Rattle.resolving.specs.Brought.{Brought, dropped, brings, isExplicit, bringFeature, whole}
-use Rattle.resolve_operands.specs.declared.Entries.{Entries}
 use Rattle.resolve_operands.specs.Picked.{Indexes}
-use Rattle.resolve_operands.specs.Entries.{entriesAs}
 use Rattle.print_writing.specs.Written.{Written}
 use Rattle.resolve_grounding.proofs.Sizes.{whole-few}
 use Rattle.resolve_terms.specs.Terms.{headNumber, parameterTerms}
 use Rattle.resolve_merging.specs.Packing.{termOf}
 use Rattle.resolve_features.specs.Terms.{SmallForms, Termed}
 use Rattle.resolve_features.proofs.TermLaws.{Below, terms-mean, terms-few}
-use Rattle.resolve_features.proofs.Variables.{entries-refused, entries-accepted}
 
 -- A list of indexes: whether there are any, and that they are small.
 
@@ -90,33 +87,27 @@ broughtOf q =
 abbrev pub numbersOf : Call → List ℕ → List ℕ → ℕ → List ℕ
 numbersOf q ps vs h = parameterTerms (q .context) (modesIn (q .effects)) h ps vs
 
--- its operands were found: these indexes
+-- what its operands are
+module _ (q : Call) where
+  abbrev pub firstOf : Answer (List ℕ)
+  firstOf = parametersOf (q .context) (q .look) (bytes "PK") (q .parameters)
+
+  abbrev pub secondOf : Answer (List ℕ)
+  secondOf = covariatesOf (q .context) (q .look) (q .covariates)
+
+  -- one of them is refused
+  pub covariate-refused : {k : ℕ} → firstOf ≡ refused k 0 → broughtOf q ≡ refused k 0
+  covariate-refused h = rw h refl
+
+  pub covariate-refused-2 : {ps : List ℕ} {k : ℕ} → firstOf ≡ accepted ps → secondOf ≡ refused k 0 → broughtOf q ≡ refused k 0
+  covariate-refused-2 h g = rw (h, g) refl
+
+-- they are found: these indexes
 pub record Found (q : Call) (ps vs : List ℕ) : Type 0 where
-  pub first : parametersOf (q .context) (q .look) (bytes "PK") (q .parameters) ≡ accepted ps
-  pub second : covariatesOf (q .context) (q .look) (q .covariates) ≡ accepted vs
+  pub first : firstOf q ≡ accepted ps
+  pub second : secondOf q ≡ accepted vs
   pub indexes : Indexes 64 ps
   pub indexes-2 : Indexes 64 vs
-
--- by what they answered, with the arrays that were lent
-module _
-    (q : Call) (own : Entries) (is : List ℕ)
-    (first : entriesAs own is ≡ parametersOf (q .context) (q .look) (bytes "PK") (q .parameters)) where
-  pub covariate-refused : (own .fault ≡ 0 → ⊥) → broughtOf q ≡ refused (own .fault) 0
-  covariate-refused h = rw (entries-refused own is first h) refl
-
-  module _
-      (found : own .fault ≡ 0) (others : Entries) (js : List ℕ)
-      (second : entriesAs others js ≡ covariatesOf (q .context) (q .look) (q .covariates)) where
-    pub covariate-refused-2 : (others .fault ≡ 0 → ⊥) → broughtOf q ≡ refused (others .fault) 0
-    covariate-refused-2 h = rw (entries-accepted own is first found, entries-refused others js second h) refl
-
-    pub both-found :
-        others .fault ≡ 0
-        → Indexes 64 (take (own .count) is)
-        → Indexes 64 (take (others .count) js)
-        → Found q (take (own .count) is) (take (others .count) js)
-    both-found h p v =
-        record { first = entries-accepted own is first found; second = entries-accepted others js second h; indexes = p; indexes-2 = v }
 
 module _ {q : Call} {ps vs : List ℕ} (f : Found q ps vs) where
   pub numbers-few : (h : ℕ) → length (numbersOf q ps vs h) ≤ 32768

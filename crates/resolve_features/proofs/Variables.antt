@@ -1,15 +1,15 @@
 -- What an operand's entries tell, and that the ground statement of a feature is short.
 -- Assumes nothing.
-use Prim.Native.Nat.{ℕ, zero, suc, _+_, _≤_, _<_}
+use Prim.Native.Nat.{ℕ, zero, suc, _+_, _≤_}
 use native.Mathlib.Omega.{arith}
-use mathlib.Core.Path.{_≡_, refl, _∙_, ap, sym}
+use mathlib.Core.Path.{_≡_, refl}
 use mathlib.Core.Bool.{Bool, true, false}
 use mathlib.Core.List.{List, [], _++_}
-use borrow.Author.Tests.{eq-eqb, ne-eqb, leb-true, leb-false}
+use borrow.Author.Tests.{leb-true, leb-false}
 use lib.Dec.{leb}
 use lib.ListN.{length, take, getD, length-append, List·getD-eq-default}
 use lib.Seq.{length-take-le}
-use Rattle.reading.specs.Answer.{Answer, accepted, refused}
+use Rattle.reading.specs.Answer.{Answer}
 use Rattle.print_writing.specs.Written.{Room}
 use Rattle.canonical.specs.Lines.{jointOf}
 use Rattle.resolving.specs.Handed.{handedContext}
@@ -17,21 +17,11 @@ use Rattle.resolve_context.specs.declared.Layout.{Layout}
 use Rattle.resolve_context.specs.Lists.{Stands, namesIn}
 use Rattle.resolve_context.proofs.Pairs.{names-length}
 use Rattle.resolve_context.proofs.Meaning.{parameters-are, parameters-sound, sound-named}
-use Rattle.resolve_operands.specs.declared.Entries.{Entries}
-use Rattle.resolve_operands.specs.Picked.{PickedAs}
-use Rattle.resolve_operands.specs.Entries.{entriesAs}
+use Rattle.resolve_operands.specs.Picked.{Picked}
 
--- what an operand answered, and the array that was lent for its indexes
-module _ {a : Answer (List ℕ)} (e : Entries) (is : List ℕ) (h : entriesAs e is ≡ a) where
-  pub entries-refused : (e .fault ≡ 0 → ⊥) → a ≡ refused (e .fault) 0
-  entries-refused n = sym h ∙ rw (ne-eqb (e .fault) 0 n) refl
-
-  pub entries-accepted : e .fault ≡ 0 → a ≡ accepted (take (e .count) is)
-  entries-accepted n = sym h ∙ rw (eq-eqb (e .fault) 0 n) refl
-
--- there are as many as it says
-pub picked-many : {n : ℕ} (e : Entries) (is : List ℕ) → PickedAs n e is → length (take (e .count) is) ≡ e .count
-picked-many e is p = length-take-le (e .count) is (omega (arith, p .size, p .few))
+-- an operand has as many indexes as it says
+pub picked-many : {n : ℕ} {a : Answer (List ℕ)} {is : List ℕ} {k : ℕ} → Picked n a is k → length (take k is) ≡ k
+picked-many {is = is} {k} p = length-take-le k is (omega (arith, p .size, p .few))
 
 -- a name of the context has at most 32 bytes
 pub names-short : (b l : List ℕ) (y : Layout) → Stands b l y → (i : ℕ) → length (getD (handedContext b l .parameters) i []) ≤ 32

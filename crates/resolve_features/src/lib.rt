@@ -1,15 +1,15 @@
 // What statements bring: a ground statement, effects, or nothing but the note that it is dropped; or a fault.
 ghost use mathlib.Core.Path.{_≡_};
 ghost use mathlib.Core.Bool.{true, false};
-ghost use mathlib.Core.List.{List, [], _++_};
+ghost use mathlib.Core.List.{List, _++_};
 ghost use Prim.Native.Nat.{ℕ, _+_, _*_, _≤_, _<_};
-ghost use lib.ListN.{length, take};
+ghost use lib.ListN.{length};
 ghost use Rattle.tokens.specs.Class.{classTable};
 ghost use Rattle.tokens.specs.Spelling.{spellAll};
 ghost use Rattle.labels.specs.Label.{keywords};
 ghost use Rattle.labels.specs.Table.{labelTable, keywordTable};
 ghost use Rattle.canonical.specs.Canonical.{takenShapes};
-ghost use Rattle.read_forms.specs.Forms.{modesIn, opAs, operandIn, featureIn, statementIn};
+ghost use Rattle.read_forms.specs.Forms.{modesIn, opAs, operandIn, featureIn};
 ghost use Rattle.reading.specs.Statement.{Covariate};
 ghost use Rattle.read_forms.specs.Items.{nameIn};
 ghost use Rattle.read_parts.specs.Apart.{apart};
@@ -40,6 +40,7 @@ use read_forms::Operand;
 use read_forms::Statement;
 use resolve_context::Found;
 use resolve_context::Layout;
+use resolve_operands::Entries;
 use tokens::Classes;
 
 // The fault of an effect against its covariate's kind.
@@ -169,7 +170,7 @@ fn stay_variables<'a>(
         keyword optional parameters family modes named before (now (out .entry)) at (now (out .exit)) r ⌝ }
 {
     let mut list = [0; 64];
-    let entries = resolve_operands::parameters_of(
+    let count = match resolve_operands::parameters_of(
         text,
         classes,
         block,
@@ -179,11 +180,11 @@ fn stay_variables<'a>(
         star,
         parameters,
         &mut list,
-    );
-    if entries.fault != resolve_operands::NO_FAULT {
-        return Stay::Refused(entries.fault);
-    }
-    if entries.count < least {
+    ) {
+        Entries::Count(count) => count,
+        Entries::Refused(fault) => return Stay::Refused(fault),
+    };
+    if count < least {
         return Stay::Dropped;
     }
     let next = print_statements::put_joint(before, out, at);
@@ -197,7 +198,7 @@ fn stay_variables<'a>(
         keyword,
         optional,
         layout.parameters,
-        &list[..entries.count],
+        &list[..count],
         family,
         whole,
         named,
@@ -378,7 +379,7 @@ pub fn bring_covariate(
         index (now (terms .entry)) at (now (terms .exit)) r ⌝ }
 {
     let mut first = [0; 64];
-    let own = resolve_operands::parameters_of(
+    let own = match resolve_operands::parameters_of(
         text,
         classes,
         block,
@@ -388,12 +389,12 @@ pub fn bring_covariate(
         b"PK",
         parameters,
         &mut first,
-    );
-    if own.fault != resolve_operands::NO_FAULT {
-        return Stay::Refused(own.fault);
-    }
+    ) {
+        Entries::Count(count) => count,
+        Entries::Refused(fault) => return Stay::Refused(fault),
+    };
     let mut second = [0; 64];
-    let others = resolve_operands::covariates_of(
+    let others = match resolve_operands::covariates_of(
         text,
         classes,
         block,
@@ -402,17 +403,17 @@ pub fn bring_covariate(
         n,
         covariates,
         &mut second,
-    );
-    if others.fault != resolve_operands::NO_FAULT {
-        return Stay::Refused(others.fault);
-    }
-    if own.count == 0 {
+    ) {
+        Entries::Count(count) => count,
+        Entries::Refused(fault) => return Stay::Refused(fault),
+    };
+    if own == 0 {
         return Stay::Dropped;
     }
-    if others.count == 0 {
+    if others == 0 {
         return Stay::Dropped;
     }
-    if resolve_terms::any_against(block, lists, layout, &second[..others.count], effects) {
+    if resolve_terms::any_against(block, lists, layout, &second[..others], effects) {
         return Stay::Refused(WRONG_KIND);
     }
     let head = head_of(index, is_named(parameters), op, optional);
@@ -420,8 +421,8 @@ pub fn bring_covariate(
         block,
         lists,
         layout,
-        &first[..own.count],
-        &second[..others.count],
+        &first[..own],
+        &second[..others],
         effects,
         head,
         terms,

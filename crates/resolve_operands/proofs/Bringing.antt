@@ -1,6 +1,6 @@
 -- What the loop over a source's list keeps: what its entries brought so far is held, and what is picked are their indexes.
 -- Assumes nothing.
-use mathlib.Core.Path.{_≡_, refl, sym, _∙_, ap, subst}
+use mathlib.Core.Path.{_≡_, refl, sym, _∙_, ap}
 use mathlib.Core.List.{List, [], _∷_, _++_, append-nil, append-assoc}
 use mathlib.Core.Option.{some, none}
 use Prim.Native.Nat.{ℕ, zero, suc, _+_, _-_, _≤_, _<_}
@@ -12,10 +12,8 @@ use Rattle.text.specs.Lists.{placeIn, sameBytes}
 use Rattle.resolving.specs.Faults.{unknownName}
 use Rattle.resolving.specs.Operands.{held}
 use Rattle.resolve_symbols.specs.Brings.{broughtBy}
-use Rattle.text.proofs.All.{All}
-use Rattle.resolve_operands.specs.Picked.{withIndex, PickedAs}
-use Rattle.resolve_operands.specs.declared.Entries.{Entries}
-use Rattle.resolve_operands.proofs.Holding.{held-one-more, held-missing, held-below, picked-of}
+use Rattle.resolve_operands.specs.Picked.{withIndex, Picked}
+use Rattle.resolve_operands.proofs.Holding.{held-one-more, held-missing, picked-of}
 
 module _ (f : ℕ → List (List ℕ)) where
   -- what the first so many bring is what fewer of them bring, and more
@@ -56,12 +54,6 @@ module _ (list : List (List ℕ)) (f : ℕ → List (List ℕ)) where
   brings-none is e = record { size = e; few = omega arith; most = omega arith; so-far = refl }
 
   module _ (is : List ℕ) (n i : ℕ) (g : HeldSoFar is n i) where
-    pub brings-picked : (k : ℕ) → length list ≡ k → (r : Entries) → r .count ≡ n → PickedAs k r is
-    brings-picked k e r q =
-        picked-of k r is (g .size) (omega (arith, q, g .few))
-        (subst (λ (m : ℕ). All (λ j. j < m) (take (r .count) is)) e
-        (held-below list (broughtBy f i) (take (r .count) is) (g .so-far ∙ ap (λ (m : ℕ). accepted (take m is)) (sym q))))
-
     pub brings-pair :
         (js : List ℕ) (m : ℕ) (w : List ℕ) (j : ℕ)
         → f i ≡ w ∷ []
@@ -96,15 +88,17 @@ module _ (list : List (List ℕ)) (f : ℕ → List (List ℕ)) where
         }
 
     pub brings-missing : (w : List ℕ) (m : ℕ) → i < m → f i ≡ w ∷ [] → placeIn (sameBytes w) list ≡ none
-        → refused unknownName 0 ≡ held list (accepted (broughtBy f m))
+        → held list (accepted (broughtBy f m)) ≡ refused unknownName 0
     brings-missing w m h e q =
         let z : m ≡ (m - (i + 1)) + (i + 1) = omega (arith, h) in
         let r = later f (m - (i + 1)) (i + 1) m z in
-        sym (held-missing list (broughtBy f i) (take n is) (g .so-far) w (r .more) q)
-        ∙ ap (λ (vs : List (List ℕ)). held list (accepted vs))
-        (sym (r .are
+        ap (λ (vs : List (List ℕ)). held list (accepted vs))
+        (r .are
         ∙ ap (λ (l : List (List ℕ)). l ++ r .more) (one-later f i ∙ ap (λ (l : List (List ℕ)). broughtBy f i ++ l) e)
-        ∙ append-assoc (broughtBy f i) (w ∷ []) (r .more)))
+        ∙ append-assoc (broughtBy f i) (w ∷ []) (r .more))
+        ∙ held-missing list (broughtBy f i) (take n is) (g .so-far) w (r .more) q
 
-    pub brings-end : (m : ℕ) → i ≡ m → accepted (take n is) ≡ held list (accepted (broughtBy f m))
-    brings-end m e = sym (g .so-far) ∙ ap (λ (k : ℕ). held list (accepted (broughtBy f k))) e
+    pub brings-end : (m k : ℕ) → i ≡ m → length list ≡ k → Picked k (held list (accepted (broughtBy f m))) is n
+    brings-end m k e many =
+        picked-of list (broughtBy f m) k is n many (g .size) (g .few)
+        (ap (λ (j : ℕ). held list (accepted (broughtBy f j))) (sym e) ∙ g .so-far)

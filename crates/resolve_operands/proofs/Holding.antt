@@ -1,6 +1,6 @@
 -- Names held to a list one after the other: what is held so far, and one more; and indexes that are held are those of entries.
 -- Assumes nothing.
-use mathlib.Core.Path.{_≡_, refl, sym, _∙_, ap}
+use mathlib.Core.Path.{_≡_, refl, sym, _∙_, ap, subst}
 use mathlib.Core.Bool.{Bool, cond}
 use mathlib.Core.List.{List, [], _∷_, _++_}
 use mathlib.Core.Option.{Option, some, none}
@@ -22,8 +22,7 @@ use Rattle.text.proofs.Appended.{firsts-one-more}
 use Rattle.text.proofs.Runs.{any-firsts}
 use Rattle.resolving_laws.proofs.Entries.{held-gives}
 use Rattle.resolving_laws.proofs.Fewness.{place-below}
-use Rattle.resolve_operands.specs.Picked.{withIndex, PickedAs}
-use Rattle.resolve_operands.specs.declared.Entries.{Entries}
+use Rattle.resolve_operands.specs.Picked.{withIndex, Picked}
 
 -- names whose indexes, each once, are these
 record Entered (list vs : List (List ℕ)) (is : List ℕ) : Type 0 where
@@ -110,8 +109,11 @@ all-at finished k d h = absurd (omega arith)
 all-at (also p r) zero d h = p
 all-at (also p r) (suc k) d h = all-at r k d (omega arith)
 
--- indexes in an array, as many as are answered, that are below a number
-pub picked-of : (n : ℕ) (r : Entries) (is : List ℕ) → length is ≡ 64 → r .count ≤ 64 → All (λ i. i < n) (take (r .count) is) → PickedAs n r is
-picked-of n r is size few a =
-    let l : length (take (r .count) is) ≡ r .count = length-take-le (r .count) is (omega (arith, size, few)) in
-    record { size = size; few = few; indexes = record { few = omega (arith, l, few); below = λ k h. all-at a k 0 h } }
+-- indexes that are held stand in an array, as many as are answered
+pub picked-of : (list ws : List (List ℕ)) (n : ℕ) (is : List ℕ) (k : ℕ)
+    → length list ≡ n → length is ≡ 64 → k ≤ 64 → held list (accepted ws) ≡ accepted (take k is)
+    → Picked n (held list (accepted ws)) is k
+picked-of list ws n is k many size few e =
+    let l : length (take k is) ≡ k = length-take-le k is (omega (arith, size, few)) in
+    let below = subst (λ (m : ℕ). All (λ i. i < m) (take k is)) many (held-below list ws (take k is) e) in
+    record { size = size; few = few; indexes = record { few = omega (arith, l, few); below = λ j h. all-at below j 0 h }; found = e }

@@ -3,15 +3,12 @@
 use mathlib.Core.Path.{_≡_, refl, sym, _∙_, ap, subst}
 use mathlib.Core.Bool.{Bool, true, false, cond}
 use mathlib.Core.List.{List, [], _∷_, map}
-use Prim.Native.Nat.{ℕ, _<_}
-use native.Mathlib.Omega.{arith}
-use lib.ListN.{length, take}
+use Prim.Native.Nat.{ℕ}
 use Rattle.reading.specs.Statement as statement
 use Rattle.reading.specs.Answer.{Answer, accepted}
 use Rattle.resolving.specs.Context.{Context}
 use Rattle.resolving.specs.Handed.{handedContext}
 use Rattle.resolving.specs.Operands.{known, namesOf, held}
-use Rattle.text.proofs.All.{All, finished}
 use Rattle.read_forms.specs.declared.Name.{Name}
 use Rattle.read_forms.specs.declared.Items.{Items}
 use Rattle.read_forms.specs.declared.Operand.{Operand}
@@ -27,14 +24,7 @@ use Rattle.resolve_symbols.specs.declared.Looked.{Looked}
 use Rattle.resolve_symbols.specs.declared.Looked.the-variants.{Names}
 use Rattle.resolve_symbols.specs.Sources.{lookedAs, Means}
 use Rattle.resolve_symbols.proofs.Sources.{stands-marked}
-use Rattle.resolve_operands.specs.declared.Entries.{Entries}
-use Rattle.resolve_operands.specs.Picked.{PickedAs}
 use Rattle.resolve_operands.specs.Entries.{targetOf, meaningIn, StandsFor, operandNames, parametersIn, covariatesIn}
-use Rattle.resolve_operands.proofs.Holding.{picked-of}
-
--- where none are answered, an array has the indexes of any list
-pub none-picked : (n : ℕ) (r : Entries) (is : List ℕ) → length is ≡ 64 → r .count ≡ 0 → PickedAs n r is
-none-picked n r is size e = picked-of n r is size (omega (arith, e)) (subst (λ (k : ℕ). All (λ i. i < n) (take k is)) (sym e) finished)
 
 -- an operand as the definition has it
 module _ (s l : List ℕ) (n : ℕ) (y : Layout) where

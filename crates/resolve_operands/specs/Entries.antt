@@ -4,8 +4,6 @@ use mathlib.Core.Path.{_≡_}
 use mathlib.Core.Bool.{Bool, cond}
 use mathlib.Core.List.{List, map}
 use mathlib.Core.Option.{some}
-use lib.Dec.{eqb}
-use lib.ListN.{take}
 use Rattle.reading.specs.Answer.{Answer, accepted, refused}
 use Rattle.resolving.specs.Context.{Context, covariates}
 use Rattle.resolving.specs.Symbols.{Meaning, lookUp}
@@ -20,9 +18,13 @@ use Rattle.resolve_symbols.specs.declared.Looked.{Looked}
 use Rattle.resolve_symbols.specs.Lets.{definitionsIn}
 use Rattle.resolve_symbols.specs.Sources.{lookedAs, Marked}
 use Rattle.resolve_operands.specs.declared.Entries.{Entries}
+use Rattle.resolve_operands.specs.declared.Entries.the-variants.{Count, Refused}
+use Rattle.resolve_operands.specs.Picked.{Picked}
 
-abbrev pub entriesAs : Entries → List ℕ → Answer (List ℕ)
-entriesAs r is = cond (eqb (r .fault) 0) (accepted (take (r .count) is)) (refused (r .fault) 0)
+-- an answer as it is given, with the array that was lent for the indexes of a list with n entries
+abbrev pub EntriesAs : ℕ → Answer (List ℕ) → List ℕ → Entries → Type 0
+EntriesAs n a is (Count k) = Picked n a is k
+EntriesAs n a is (Refused f) = a ≡ refused f 0
 
 -- the list that names are held to: that of covariates, or the parameters
 abbrev pub targetOf : Layout → Bool → Names

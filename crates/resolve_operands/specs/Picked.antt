@@ -6,7 +6,7 @@ use mathlib.Core.List.{List, [], _∷_, _++_}
 use lib.Dec.{eqb}
 use lib.ListN.{length, take, getD}
 use Rattle.text.specs.Lists.{any}
-use Rattle.resolve_operands.specs.declared.Entries.{Entries}
+use Rattle.reading.specs.Answer.{Answer, accepted}
 
 -- an index stands among others
 abbrev pub standsIn : List ℕ → ℕ → Bool
@@ -21,8 +21,9 @@ pub record Indexes (n : ℕ) (is : List ℕ) : Type 0 where
   pub few : length is ≤ 64
   pub below : (k : ℕ) → k < length is → getD is k 0 < n
 
--- what stands in the array that was lent: as many indexes as are answered, of a list with so many entries
-pub record PickedAs (n : ℕ) (r : Entries) (is : List ℕ) : Type 0 where
+-- an answer's indexes stand in the array that was lent: so many, of a list with n entries
+pub record Picked (n : ℕ) (a : Answer (List ℕ)) (is : List ℕ) (k : ℕ) : Type 0 where
   pub size : length is ≡ 64
-  pub few : r .count ≤ 64
-  pub indexes : Indexes n (take (r .count) is)
+  pub few : k ≤ 64
+  pub indexes : Indexes n (take k is)
+  pub found : a ≡ accepted (take k is)

@@ -13,10 +13,10 @@ ghost use Rattle.read_parts.specs.Meaning.{OperandFits};
 ghost use Rattle.resolve_context.specs.Lists.{namesIn, Sound, Stands, covariatesOf, layoutOf};
 ghost use Rattle.resolve_symbols.specs.Lets.{LetsFit};
 ghost use Rattle.resolve_symbols.specs.Sources.{sourceList, SourceFits, LookedFits};
-ghost use Rattle.resolve_operands.specs.Picked.{standsIn, withIndex, PickedAs};
+ghost use Rattle.resolve_operands.specs.Picked.{standsIn, withIndex};
 ghost use Rattle.resolve_symbols.specs.Brings.{namedAs, NamedFits};
 ghost use Rattle.resolve_operands.specs.Named.{extentOf, EntryAt, NameHere, PlacedAs};
-ghost use Rattle.resolve_operands.specs.Entries.{entriesAs, targetOf, StandsFor, operandNames, parametersIn, covariatesIn};
+ghost use Rattle.resolve_operands.specs.Entries.{EntriesAs, targetOf, StandsFor, operandNames, parametersIn, covariatesIn};
 use read_forms::Items;
 use read_forms::Operand;
 use resolve_context::Found;
@@ -30,8 +30,6 @@ use tokens::Classes;
 use tokens::Cursor;
 
 // The faults of an operand by their numbers.
-pub const NO_FAULT: u8 = 0;
-
 pub const UNKNOWN_SYMBOL: u8 = 14;
 
 pub const UNKNOWN_NAME: u8 = 15;
@@ -49,10 +47,10 @@ enum Placed {
     NoName,
 }
 
-// How many indexes an operand has in the array that was lent, or why there are none.
-pub struct Entries {
-    pub fault: u8,
-    pub count: usize,
+// How many indexes an operand has in the array that was lent, or the fault for which there are none.
+pub enum Entries {
+    Count(usize),
+    Refused(u8),
 }
 
 // Whether an index stands among the first so many.
@@ -168,9 +166,8 @@ fn hold(
 ) -> Entries
     requires { ⌜ (now classes ≡ classTable) × Stands (now block) (now lists) layout × SourceFits (now text) source
         × Sound (now block) (now lists) target × (length (now indexes) ≡ 64) ⌝ }
-    ensures { λ r. ⌜ PickedAs (target .count) r (now (indexes .exit))
-        × (entriesAs r (now (indexes .exit)) ≡ held (namesIn (now (block .entry)) (now (lists .entry)) target)
-        (accepted (sourceList (handedContext (now (block .entry)) (now (lists .entry))) (now (text .entry)) source))) ⌝ }
+    ensures { λ r. ⌜ EntriesAs (target .count) (held (namesIn (now (block .entry)) (now (lists .entry)) target)
+        (accepted (sourceList (handedContext (now (block .entry)) (now (lists .entry))) (now (text .entry)) source))) (now (indexes .exit)) r ⌝ }
 {
     let extent = extent_of(layout, source);
     let count = extent.count;
@@ -187,10 +184,7 @@ fn hold(
                 i += 1;
             }
             Placed::Missing => {
-                return Entries {
-                    fault: UNKNOWN_NAME,
-                    count: n,
-                };
+                return Entries::Refused(UNKNOWN_NAME);
             }
             Placed::NoName => {
                 cur = here.next;
@@ -198,10 +192,7 @@ fn hold(
             }
         }
     }
-    Entries {
-        fault: NO_FAULT,
-        count: n,
-    }
+    Entries::Count(n)
 }
 
 // The list that names are held to: that of covariates, or the parameters.
@@ -259,18 +250,15 @@ fn operand_entries<'a>(
 ) -> Entries
     requires { ⌜ (now classes ≡ classTable) × (isHanded (now block) (now lists) ≡ true) × LetsFit (now text) (now lets) n
         × OperandFits (now text) operand × (length (now indexes) ≡ 64) ⌝ }
-    ensures { λ r. ⌜ PickedAs (targetOf (layoutOf (now (lists .entry))) every .count) r (now (indexes .exit))
-        × (entriesAs r (now (indexes .exit)) ≡ cond every
+    ensures { λ r. ⌜ EntriesAs (targetOf (layoutOf (now (lists .entry))) every .count) (cond every
         (covariatesIn (now (text .entry)) (now (lets .entry)) n (now (block .entry)) (now (lists .entry)) operand)
-        (parametersIn (now (text .entry)) (now (lets .entry)) n (now (block .entry)) (now (lists .entry)) (now (star .entry)) operand)) ⌝ }
+        (parametersIn (now (text .entry)) (now (lets .entry)) n (now (block .entry)) (now (lists .entry)) (now (star .entry)) operand))
+        (now (indexes .exit)) r ⌝ }
 {
     let layout = resolve_context::read_layout(lists);
     let target = target_of(layout, every);
     let Looked::Names(source) = source_of(text, lets, n, layout, star, every, operand) else {
-        return Entries {
-            fault: UNKNOWN_SYMBOL,
-            count: 0,
-        };
+        return Entries::Refused(UNKNOWN_SYMBOL);
     };
     hold(text, classes, block, lists, layout, source, target, indexes)
 }
@@ -289,9 +277,9 @@ pub fn parameters_of<'a>(
 ) -> Entries
     requires { ⌜ (now classes ≡ classTable) × (isHanded (now block) (now lists) ≡ true) × LetsFit (now text) (now lets) n
         × OperandFits (now text) operand × (length (now indexes) ≡ 64) ⌝ }
-    ensures { λ r. ⌜ PickedAs (layoutOf (now (lists .entry)) .parameters .count) r (now (indexes .exit))
-        × (entriesAs r (now (indexes .exit)) ≡ parametersIn (now (text .entry)) (now (lets .entry)) n (now (block .entry)) (now (lists .entry))
-        (now (star .entry)) operand) ⌝ }
+    ensures { λ r. ⌜ EntriesAs (layoutOf (now (lists .entry)) .parameters .count)
+        (parametersIn (now (text .entry)) (now (lets .entry)) n (now (block .entry)) (now (lists .entry)) (now (star .entry)) operand)
+        (now (indexes .exit)) r ⌝ }
 {
     operand_entries(
         text,
@@ -320,9 +308,8 @@ pub fn covariates_of(
 ) -> Entries
     requires { ⌜ (now classes ≡ classTable) × (isHanded (now block) (now lists) ≡ true) × LetsFit (now text) (now lets) n
         × OperandFits (now text) operand × (length (now indexes) ≡ 64) ⌝ }
-    ensures { λ r. ⌜ PickedAs (covariatesOf (layoutOf (now (lists .entry))) .count) r (now (indexes .exit))
-        × (entriesAs r (now (indexes .exit)) ≡ covariatesIn (now (text .entry)) (now (lets .entry)) n (now (block .entry)) (now (lists .entry))
-        operand) ⌝ }
+    ensures { λ r. ⌜ EntriesAs (covariatesOf (layoutOf (now (lists .entry))) .count)
+        (covariatesIn (now (text .entry)) (now (lets .entry)) n (now (block .entry)) (now (lists .entry)) operand) (now (indexes .exit)) r ⌝ }
 {
     operand_entries(
         text,

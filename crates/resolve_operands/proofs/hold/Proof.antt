@@ -1,6 +1,6 @@
 -- `resolve_operands::hold` meets its contract: in each turn, what the entries so far brought is held, what is picked are their indexes, and the next entry
 -- is read at the cursor, if it stands in the text. Assumes nothing.
-use mathlib.Core.Path.{_≡_, refl, sym, ap, _∙_, subst}
+use mathlib.Core.Path.{_≡_, sym, ap, _∙_, subst}
 use mathlib.Core.List.{List}
 use mathlib.Core.Option.{some}
 use Prim.Native.Nat.{ℕ, _-_, _≤_, _<_}
@@ -8,7 +8,7 @@ use native.Mathlib.Omega.{arith}
 use denote.Ref.{now}
 use borrow.Author.Needs.{needs}
 use lib.ListN.{length}
-use Rattle.reading.specs.Answer.{accepted}
+use Rattle.reading.specs.Answer.{Answer, accepted}
 use Rattle.text.specs.Lists.{sameBytes}
 use Rattle.resolving.specs.Operands.{held}
 use Rattle.resolving.specs.Handed.{handedContext}
@@ -18,11 +18,10 @@ use Rattle.resolve_context.specs.Lists.{namesIn}
 use Rattle.resolve_context.proofs.Pairs.{names-length}
 use Rattle.resolve_symbols.specs.Sources.{sourceList}
 use Rattle.resolve_symbols.specs.Brings.{broughtBy, namedAs}
-use Rattle.resolve_operands.specs.declared.Entries.{Entries}
 use Rattle.resolve_operands.specs.declared.Placed.{Placed}
-use Rattle.resolve_operands.specs.Picked.{PickedAs}
+use Rattle.resolve_operands.specs.Picked.{Picked}
 use Rattle.resolve_operands.specs.Named.{extentOf, namesAt, EntryAt, Word, PlacedAs}
-use Rattle.resolve_operands.proofs.Bringing.{HeldSoFar, brings-none, brings-picked, brings-pair, brings-nothing, brings-missing, brings-end}
+use Rattle.resolve_operands.proofs.Bringing.{HeldSoFar, brings-none, brings-pair, brings-nothing, brings-missing, brings-end}
 use Rattle.resolve_operands.proofs.Naming.{all-named, extent-few, first-read}
 use Rattle.resolve_operands.proofs.hold.Statement.{statement}
 use Rattle.resolve_operands.proofs.hold.Tie as tie
@@ -63,11 +62,6 @@ module _ (s : tie.Start Inv-loop μ-loop) where
   as-source =
       ap (λ (ws : List (List ℕ)). held entries (accepted ws))
       (all-named (now (s .args .block)) (now (s .args .lists)) (s .args .layout) (s .pre .1) (now (s .args .text)) (s .args .source) (s .pre .2))
-
--- what is answered of the indexes so far
-picked : (l : tie.At-loop Inv-loop μ-loop) (r : Entries) → r .count ≡ l .loop .n → PickedAs (begun l .args .target .count) r (l .loop .indexes)
-picked l =
-    brings-picked (entries (begun l)) (each (begun l)) (l .loop .indexes) (l .loop .n) (l .loop .i) (l .loop .inv .0) _ (entries-many (begun l))
 
 -- the source has at most 64 entries
 counted : (l : tie.At-loop Inv-loop μ-loop) → extent l .extent-of .result .count ≡ all (begun l)
@@ -170,12 +164,10 @@ returns c =
     let d = c .before .before in
     let t = turn d in
     let l = t .before in
-    let w = looked-up d (c .enum-told .given .1) in (
-      picked l _ refl,
-      brings-missing (entries (top d)) (each (top d)) (l .loop .indexes) (l .loop .n) (l .loop .i) (l .loop .inv .0) (w .word) (all (top d)) (below t)
-          (here d (w .are)) (w .found)
-          ∙ as-source (top d),
-    )
+    let w = looked-up d (c .enum-told .given .1) in
+    sym (as-source (top d))
+    ∙ brings-missing (entries (top d)) (each (top d)) (l .loop .indexes) (l .loop .n) (l .loop .i) (l .loop .inv .0) (w .word) (all (top d)) (below t)
+    (here d (w .are)) (w .found)
 
 loop-again-2 : tie.Need-loop-again-2 Inv-loop μ-loop
 loop-again-2 c =
@@ -191,12 +183,11 @@ loop-again-2 c =
 returns-2 : tie.Need-returns-2 Inv-loop μ-loop
 returns-2 c =
     let l = c .before in
-    let last : l .loop .i ≡ extent l .extent-of .result .count = omega (arith, c .loop-test .left, l .loop .inv .2) in (
-      picked l _ refl,
-      brings-end (entries (begun l)) (each (begun l)) (l .loop .indexes) (l .loop .n) (l .loop .i) (l .loop .inv .0) (all (begun l))
-          (last ∙ counted l)
-          ∙ as-source (begun l),
-    )
+    let s = begun l in
+    let last : l .loop .i ≡ extent l .extent-of .result .count = omega (arith, c .loop-test .left, l .loop .inv .2) in
+    subst (λ (a : Answer (List ℕ)). Picked (s .args .target .count) a (l .loop .indexes) (l .loop .n)) (as-source s)
+    (brings-end (entries s) (each s) (l .loop .indexes) (l .loop .n) (l .loop .i) (l .loop .inv .0) (all s) (s .args .target .count)
+    (last ∙ counted l) (entries-many s))
 
 pub hold-spec : {M : Type 1} → statement M
 hold-spec =

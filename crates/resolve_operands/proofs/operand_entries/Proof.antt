@@ -1,12 +1,12 @@
 -- `resolve_operands::operand_entries` meets its contract: a symbol that is unknown is 14, and the names of what is found are held to the list that they
 -- are held to there. Assumes nothing.
-use mathlib.Core.Path.{_≡_, refl, sym, _∙_, ap, subst}
+use mathlib.Core.Path.{_≡_, sym, _∙_, ap, subst, subst₂}
 use mathlib.Core.Bool.{cond}
 use mathlib.Core.List.{List}
 use Prim.Native.Nat.{ℕ}
 use denote.Ref.{now}
 use borrow.Author.Needs.{needs}
-use Rattle.reading.specs.Answer.{Answer, accepted}
+use Rattle.reading.specs.Answer.{Answer}
 use Rattle.resolving.specs.Context.{Context}
 use Rattle.resolving.specs.Handed.{handedContext}
 use Rattle.resolving.specs.Operands.{known, held}
@@ -14,13 +14,11 @@ use Rattle.resolve_context.specs.declared.Layout.{Layout}
 use Rattle.resolve_context.specs.declared.Names.{Names}
 use Rattle.resolve_context.specs.Lists.{namesIn, Sound, Stands, layoutOf}
 use Rattle.resolve_context.proofs.Meaning.{handed-heads-fit}
-use Rattle.resolve_symbols.specs.declared.Source.{Source}
 use Rattle.resolve_symbols.specs.declared.Looked.{Looked}
 use Rattle.resolve_symbols.specs.declared.Looked.the-variants as looked
-use Rattle.resolve_symbols.specs.Sources.{sourceList, SourceFits, lookedAs, LookedFits}
-use Rattle.resolve_operands.specs.Picked.{PickedAs}
-use Rattle.resolve_operands.specs.Entries.{targetOf, StandsFor, operandNames, parametersIn, covariatesIn}
-use Rattle.resolve_operands.proofs.Sources.{none-picked, target-sound, operand-held}
+use Rattle.resolve_symbols.specs.Sources.{lookedAs, LookedFits}
+use Rattle.resolve_operands.specs.Entries.{EntriesAs, targetOf, StandsFor, operandNames, parametersIn, covariatesIn}
+use Rattle.resolve_operands.proofs.Sources.{target-sound, operand-held}
 use Rattle.resolve_operands.proofs.operand_entries.Statement.{statement}
 use Rattle.resolve_operands.proofs.operand_entries.Tie as tie
 
@@ -78,7 +76,7 @@ module _ (d : tie.After-source-of) where
 returns : tie.Need-returns
 returns c =
     let d = c .before .before in
-    (none-picked _ _ _ (start d .pre .4) refl, found-held d looked.Unknown (c .enum-told .given .1))
+    sym (found-held d looked.Unknown (c .enum-told .given .1))
 
 hold-requires : tie.Need-hold-requires
 hold-requires c κs =
@@ -89,10 +87,11 @@ hold-requires c κs =
 returns-2 : tie.Need-returns-2
 returns-2 c =
     let x = c .before .before .before in
-    let d = x .before .before in (
-      subst (λ (n : Names). PickedAs (n .count) (c .hold .result) (c .hold .last .1 .1 .1 .1 .1 .1 .1 .0)) (target-there d) (c .hold .ensures .0),
-      c .hold .ensures .1 ∙ found-held d (looked.Names (x .source .given .0 .0)) (x .source .given .1),
-    )
+    let d = x .before .before in
+    let is = c .hold .last .1 .1 .1 .1 .1 .1 .1 .0 in
+    subst₂ (λ (n : Names) (a : Answer (List ℕ)). EntriesAs (n .count) a is (c .hold .result)) (target-there d)
+    (found-held d (looked.Names (x .source .given .0 .0)) (x .source .given .1))
+    (c .hold .ensures)
 
 pub operand-entries-spec : {M : Type 1} → statement M
 operand-entries-spec =
