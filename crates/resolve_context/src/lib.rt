@@ -4,15 +4,21 @@ ghost use Prim.Native.Nat.{_+_, _*_, _≤_, _<_};
 ghost use mathlib.Core.List.{[]};
 ghost use lib.ListN.{length, getD};
 ghost use mathlib.Core.Bool.{true};
+ghost use mathlib.Core.Option.{some};
+ghost use lib.Dec.{eqb};
 ghost use Rattle.tokens.specs.Class.{classTable};
 ghost use Rattle.tokens.specs.Spelling.{isName};
 ghost use Rattle.labels.specs.Word.{sameWord};
 ghost use Rattle.text.specs.Lists.{sameBytes, placeIn};
-ghost use Rattle.resolving.specs.Given.{isEntry};
+ghost use Rattle.resolving.specs.Context.{kindNumber};
+ghost use Rattle.resolving.specs.Effects.{everyForm, isCat, suits as suits·spec};
+ghost use Rattle.resolving.specs.Given.{isEntry, kindOf};
 ghost use Rattle.resolving.specs.Handed.{pairOf, pastAll, isHanded};
+ghost use Rattle.read_packs.specs.Packs.{places};
 ghost use Rattle.read_forms.specs.Items.{nameIn};
 ghost use Rattle.read_forms.specs.Fits.{InText};
 ghost use Rattle.resolve_context.specs.Lists.{layoutOf, checkedAs, sameBy, foundAs, Sound, InRun, namesIn, kindsIn, bothOf, variablesOf, covariatesOf};
+ghost use Rattle.resolve_context.specs.Kinds.{kindAs};
 ghost use Rattle.resolve_context.specs.Lists.{markFits, headsFit, orderOf, kindsFit, listsFit};
 use read_forms::Name;
 use tokens::Classes;
@@ -45,6 +51,12 @@ pub enum Checked {
 pub enum Found {
     Place(usize),
     Nothing,
+}
+
+// The kind of a covariate. A `match` on it has an arm for each kind and no default, so that one kind more shows every place that goes by kinds.
+pub enum Kind {
+    Continuous,
+    Categorical,
 }
 
 // How two names are compared: byte for byte, or as words, ignoring case.
@@ -257,12 +269,67 @@ pub fn match_of(block: &[u8], lists: &[u32], names: Names, word: &[u8]) -> Found
     first_same(block, lists, names, Comparing::Words, word)
 }
 
-// The kind of a declared covariate.
-pub fn kind_at(lists: &[u32], names: Names, index: usize) -> u32
-    requires { ⌜ (index < names .count) × (names .start + 3 * names .count ≤ length (now lists)) ⌝ }
-    ensures { λ r. ⌜ r ≡ getD (kindsIn (now (lists .entry)) names) index 0 ⌝ }
+// The kind that a number of the run stands for.
+pub fn kind_of(number: u32) -> Kind
+    ensures { λ r. ⌜ kindAs r ≡ kindOf number ⌝ }
 {
-    lists[names.start + 3 * index + 2]
+    if number == 0 {
+        return Kind::Continuous;
+    }
+    Kind::Categorical
+}
+
+// The number of a kind in the run.
+pub fn number_of(kind: Kind) -> u32
+    ensures { λ r. ⌜ r ≡ kindNumber (kindAs kind) ⌝ }
+{
+    match kind {
+        Kind::Continuous => 0,
+        Kind::Categorical => 1,
+    }
+}
+
+pub fn same_kind(one: Kind, other: Kind) -> bool
+    ensures { λ r. ⌜ r ≡ eqb (kindNumber (kindAs one)) (kindNumber (kindAs other)) ⌝ }
+{
+    number_of(one) == number_of(other)
+}
+
+// The kind of a declared covariate.
+pub fn kind_at(lists: &[u32], names: Names, index: usize) -> Kind
+    requires { ⌜ (index < names .count) × (names .start + 3 * names .count ≤ length (now lists)) ⌝ }
+    ensures { λ r. ⌜ kindAs r ≡ kindOf (getD (kindsIn (now (lists .entry)) names) index 0) ⌝ }
+{
+    kind_of(lists[names.start + 3 * index + 2])
+}
+
+// The forms of effect `*` on a covariate of a kind, packed: the four of CONTINUOUS, or Cat.
+pub fn every_form(kind: Kind) -> u32
+    ensures { λ r. ⌜ places r ≡ everyForm (some (kindAs kind)) ⌝ }
+{
+    match kind {
+        Kind::Continuous => 0x4321,
+        Kind::Categorical => 0x5,
+    }
+}
+
+fn is_cat(form: u32) -> bool
+    ensures { λ r. ⌜ r ≡ isCat form ⌝ }
+{
+    if form == 4 {
+        return true;
+    }
+    form == 5
+}
+
+// Cat and Cat2 suit categorical covariates, the other forms continuous ones.
+pub fn suits(kind: Kind, form: u32) -> bool
+    ensures { λ r. ⌜ r ≡ suits·spec (some (kindAs kind)) form ⌝ }
+{
+    match kind {
+        Kind::Continuous => !is_cat(form),
+        Kind::Categorical => is_cat(form),
+    }
 }
 
 // A mark is 0 or 1, and without it a list is empty.

@@ -1,18 +1,16 @@
 -- What an entry brings, as it is answered: nothing, or the pair of a name; for an entry of the template by the place of a parameter.
 -- Assumes nothing.
 use mathlib.Core.Path.{_≡_, refl, _∙_, ap, sym, subst, subst₂}
-use mathlib.Core.Bool.{Bool, true, false, cond, _||_, Bool·beq}
+use mathlib.Core.Bool.{Bool, true, false, cond, _||_}
 use mathlib.Core.List.{List, [], _∷_}
 use mathlib.Core.Option.{Option, some, none}
 use Prim.Native.Nat.{ℕ}
 use native.Mathlib.Omega.{arith}
-use lib.Dec.{eqb}
 use lib.ListN.{getD}
 use Rattle.labels.specs.Word.{sameWord}
 use Rattle.text.specs.Lists.{oneLater, any, keep, placeIn, sameBytes}
-use Rattle.resolving.specs.Context.{Binding, Declared, continuous, categorical, kindNumber}
+use Rattle.resolving.specs.Context.{Binding, Declared}
 use Rattle.resolving.specs.Builtins.{matching}
-use Rattle.resolving.specs.Given.{kindOf}
 use Rattle.resolving_laws.proofs.Fewness.{place-below}
 use Rattle.resolve_context.specs.declared.Layout.{Layout}
 use Rattle.resolve_context.specs.Lists.{foundAs, namesIn}
@@ -108,16 +106,3 @@ module _ (b l : List ℕ) (y : Layout) where
       by-place none e = matches-nothing refl
       by-place (some i) e =
           record { below = omega (arith, place-below (sameWord v) parameters i e, names-length b l (y .parameters)); same = refl }
-
--- a kind is continuous or not
-pub kinds-agree : (j k : ℕ) → Bool·beq (eqb j 0) (eqb k 0) ≡ eqb (kindNumber (kindOf j)) (kindNumber (kindOf k))
-kinds-agree j k = by-tests (eqb j 0) (eqb k 0)
-  where
-    number : Bool → ℕ
-    number t = kindNumber (cond t continuous categorical)
-
-    by-tests : (t u : Bool) → Bool·beq t u ≡ eqb (number t) (number u)
-    by-tests true true = refl
-    by-tests true false = refl
-    by-tests false true = refl
-    by-tests false false = refl

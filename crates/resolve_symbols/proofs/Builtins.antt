@@ -8,8 +8,9 @@ use Prim.Native.Nat.{ℕ}
 use Rattle.text.specs.Lists.{keep}
 use Rattle.resolving.specs.Context.{Context}
 use Rattle.resolving.specs.Builtins.{everyRole, templated, declared}
-use Rattle.resolving.specs.Given.{kindOf}
+use Rattle.resolve_context.specs.declared.Kind.{Kind}
 use Rattle.resolve_context.specs.declared.Layout.{Layout}
+use Rattle.resolve_context.specs.Kinds.{kindAs}
 use Rattle.resolve_symbols.specs.declared.Roles.{Roles}
 use Rattle.resolve_symbols.specs.declared.Listing.{Listing}
 use Rattle.resolve_symbols.specs.declared.Listing.the-variants.{Iiv, Template, TemplateIiv, Nothing, Declared}
@@ -87,5 +88,5 @@ module _ {y : Layout} where
       if-marked (y .templated) TemplateIiv (λ c. Option·map (keep (amongIiv c)) (templated c everyRole)) refl
       (λ c m. rw (m .templated) (kept-or (keep (amongIiv c)) _ (c .template)))
 
-  pub of-block : (k : ℕ) → MeansAnywhere y (cond (y .declares) (Names (Given (Declared k))) Unknown) (λ c. declared c (kindOf k))
-  of-block k = if-marked (y .declares) (Declared k) (λ c. declared c (kindOf k)) refl (λ c m. rw (m .declares) (some-or _ (c .block)))
+  pub of-block : (k : Kind) → MeansAnywhere y (cond (y .declares) (Names (Given (Declared k))) Unknown) (λ c. declared c (kindAs k))
+  of-block k = if-marked (y .declares) (Declared k) (λ c. declared c (kindAs k)) refl (λ c m. rw (m .declares) (some-or _ (c .block)))

@@ -16,11 +16,12 @@ use Rattle.text.specs.Lists.{any, keep, gather, sameBytes}
 use Rattle.resolving.specs.Context.{Context, Binding}
 use Rattle.resolving.specs.Context as context
 use Rattle.resolving.specs.Builtins.{matching, everyRole, ofKind, templated}
-use Rattle.resolving.specs.Given.{kindOf, onlyIf}
+use Rattle.resolving.specs.Given.{onlyIf}
 use Rattle.resolving.specs.Handed.{handedContext}
 use Rattle.text.proofs.Appended.{keep-append}
 use Rattle.resolve_context.specs.declared.Names.{Names}
 use Rattle.resolve_context.specs.declared.Layout.{Layout}
+use Rattle.resolve_context.specs.Kinds.{kindAs}
 use Rattle.resolve_context.specs.Lists.{Stands, layoutOf, namesIn, templateIn, blockIn, covariatesOf, countsOf, markFits, headsFit}
 use Rattle.resolve_context.proofs.Pairs.{names-length}
 use Rattle.resolve_context.proofs.Meaning.{
@@ -193,7 +194,7 @@ module _ (b l : List ℕ) (y : Layout) (st : Stands b l y) where
       ∙ ap (keep (isIiv b l y)) (template-brought everyRole)
       ∙ ap (λ (ws : List (List ℕ)). keep (λ v. any (sameBytes v) ws) (orNone (templated c everyRole))) (sym (iiv-are b l y st))
   listing-brought Nothing = brought-none 0
-  listing-brought (Declared q) = declared-brought (ofKind (kindOf q))
+  listing-brought (Declared q) = declared-brought (ofKind (kindAs q))
   listing-brought Covariates = names-brought b l (covariatesOf y) ∙ sym (covariates-are b l y st)
 
   -- what `look_up` asks of a context

@@ -15,6 +15,7 @@ use Rattle.read_forms.specs.Items.{nameIn}
 use Rattle.read_forms.specs.Fits.{InText}
 use Rattle.resolve_context.specs.declared.Names.{Names}
 use Rattle.resolve_context.specs.declared.Layout.{Layout}
+use Rattle.resolve_context.specs.Kinds.{kindAs}
 use Rattle.resolve_context.specs.Lists.{listAt, namesIn, kindsIn, variablesOf, covariatesOf}
 use Rattle.resolve_context.specs.declared.Found.{Found}
 use Rattle.resolve_context.specs.declared.Found.the-variants as found
@@ -68,7 +69,7 @@ module _ (b l : List ℕ) (y : Layout) where
   brings (Template r) i = fromTemplate r i
   brings TemplateIiv i = keep isIiv (fromTemplate Every i)
   brings Nothing i = []
-  brings (Declared k) i = fromDeclared (ofKind (kindOf k)) (declaredAt i)
+  brings (Declared k) i = fromDeclared (ofKind (kindAs k)) (declaredAt i)
   brings Covariates i = entryAt (covariatesOf y) i ∷ []
 
 -- what the first so many bring

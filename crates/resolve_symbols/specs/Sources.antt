@@ -9,10 +9,10 @@ use Rattle.text.specs.Bytes.{bytes}
 use Rattle.text.specs.Lists.{any, keep, sameBytes}
 use Rattle.resolving.specs.Context.{Context, Binding, covariates}
 use Rattle.resolving.specs.Builtins.{everyRole, absorptionRoles, distributionRoles, templated, declared}
-use Rattle.resolving.specs.Given.{kindOf}
 use Rattle.read_forms.specs.Items.{itemsIn}
 use Rattle.read_forms.specs.Fits.{Listed}
 use Rattle.resolve_context.specs.declared.Layout.{Layout}
+use Rattle.resolve_context.specs.Kinds.{kindAs}
 use Rattle.resolve_symbols.specs.declared.Roles.{Roles}
 use Rattle.resolve_symbols.specs.declared.Roles.the-variants.{Every, Absorption, Elimination, Distribution, Bioavail}
 use Rattle.resolve_symbols.specs.declared.Listing.{Listing}
@@ -46,7 +46,7 @@ listingNames c Iiv = c .iiv
 listingNames c (Template r) = orNone (templated c (ofRoles r))
 listingNames c TemplateIiv = keep (amongIiv c) (orNone (templated c everyRole))
 listingNames c Nothing = []
-listingNames c (Declared k) = orNone (declared c (kindOf k))
+listingNames c (Declared k) = orNone (declared c (kindAs k))
 listingNames c Covariates = covariates c
 
 abbrev pub sourceList : Context → List ℕ → Source → List (List ℕ)

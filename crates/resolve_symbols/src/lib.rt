@@ -6,13 +6,10 @@ ghost use mathlib.Core.List.{map};
 ghost use mathlib.Core.Option.{some};
 ghost use Prim.Native.Nat.{_+_, _*_, _≤_, _<_, min};
 ghost use lib.ListN.{length};
-ghost use lib.Dec.{eqb};
 ghost use Rattle.labels.specs.Word.{sameWord};
 ghost use Rattle.text.specs.Lists.{any, keep, sameBytes};
-ghost use Rattle.resolving.specs.Context.{kindNumber};
 ghost use Rattle.resolving.specs.Builtins as builtins;
 ghost use Rattle.resolving.specs.Builtins.{absorptionRoles, distributionRoles};
-ghost use Rattle.resolving.specs.Given.{kindOf};
 ghost use Rattle.resolving.specs.Symbols.{definition, lookUp};
 ghost use Rattle.read_forms.specs.Items.{nameIn, itemsIn};
 ghost use Rattle.read_forms.specs.Fits.{InText, Listed};
@@ -23,6 +20,7 @@ ghost use Rattle.resolve_symbols.specs.Brings.{listOf, isIiv, parameterA
 use read_forms::Items;
 use read_forms::Name;
 use resolve_context::Found;
+use resolve_context::Kind;
 use resolve_context::Layout;
 use resolve_context::Names;
 use resolve_context::name_at;
@@ -39,13 +37,13 @@ pub enum Roles {
     Bioavail,
 }
 
-// A list of the context, and which of its entries are taken. A declared covariate's kind is a number, 0 continuous or 1 categorical.
+// A list of the context, and which of its entries are taken.
 pub enum Listing {
     Iiv,
     Template(Roles),
     TemplateIiv,
     Nothing,
-    Declared(u32),
+    Declared(Kind),
     Covariates,
 }
 
@@ -162,8 +160,20 @@ fn builtin(layout: Layout, word: &[u8]) -> Looked
     let block = layout.declares;
     let template = layout.templated;
     let r = Looked::Unknown;
-    let r = if_word(word, b"CATEGORICAL", block, Listing::Declared(1), r);
-    let r = if_word(word, b"CONTINUOUS", block, Listing::Declared(0), r);
+    let r = if_word(
+        word,
+        b"CATEGORICAL",
+        block,
+        Listing::Declared(Kind::Categorical),
+        r,
+    );
+    let r = if_word(
+        word,
+        b"CONTINUOUS",
+        block,
+        Listing::Declared(Kind::Continuous),
+        r,
+    );
     let r = if_word(
         word,
         b"BIOAVAIL",
@@ -249,12 +259,6 @@ fn has_role(roles: Roles, role: &[u8]) -> bool
     }
 }
 
-fn same_kind(one: u32, other: u32) -> bool
-    ensures { λ r. ⌜ r ≡ eqb (kindNumber (kindOf one)) (kindNumber (kindOf other)) ⌝ }
-{
-    (one == 0) == (other == 0)
-}
-
 // The place of the parameter that a variable of the template matches, if its role is one of these.
 fn of_template(block: &[u8], lists: &[u32], layout: Layout, roles: Roles, index: usize) -> Found
     requires { ⌜ Stands (now block) (now lists) layout × (index < layout .template .count) ⌝ }
@@ -298,12 +302,12 @@ fn parameter(block: &[u8], lists: &[u32], layout: Layout, found: Found) -> Named
 }
 
 // A declared covariate, if it is of the kind.
-fn of_kind(block: &[u8], lists: &[u32], layout: Layout, kind: u32, index: usize) -> Named
+fn of_kind(block: &[u8], lists: &[u32], layout: Layout, kind: Kind, index: usize) -> Named
     requires { ⌜ Stands (now block) (now lists) layout × (index < layout .declared .count) ⌝ }
     ensures { λ r. ⌜ Yields (now (block .entry)) (brings (now (block .entry)) (now (lists .entry)) layout (Listing.Declared kind) index) r ⌝ }
 {
     let declared = layout.declared;
-    if same_kind(kind, resolve_context::kind_at(lists, declared, index)) {
+    if resolve_context::same_kind(kind, resolve_context::kind_at(lists, declared, index)) {
         return Named::Block(pair_at(block, lists, declared, index));
     }
     Named::Nothing

@@ -5,15 +5,15 @@ use mathlib.Core.List.{List, map}
 use mathlib.Core.Option.{Option, some, none}
 use Rattle.reading.specs.Statement.{Modes, Operator}
 use Rattle.text.specs.Lists.{gather}
-use Rattle.resolving.specs.Context.{Context, CovariateKind, continuous, categorical, kindAt}
+use Rattle.resolving.specs.Context.{Context, CovariateKind, kindAt}
 use Rattle.resolving.specs.Effects.{formsOf, operatorNumber, optionalNumber}
+use Rattle.resolve_context.specs.Kinds.{kindAs}
 use Rattle.resolve_terms.specs.declared.SomeKind.{SomeKind}
-use Rattle.resolve_terms.specs.declared.SomeKind.the-variants.{Undeclared, Continuous, Categorical}
+use Rattle.resolve_terms.specs.declared.SomeKind.the-variants.{Undeclared, Declared}
 
 abbrev pub kindIn : SomeKind → Option CovariateKind
 kindIn Undeclared = none
-kindIn Continuous = some continuous
-kindIn Categorical = some categorical
+kindIn (Declared k) = some (kindAs k)
 
 -- what all effects of a statement have in common
 abbrev pub headNumber : ℕ → Bool → Operator → Bool → ℕ

@@ -3,11 +3,10 @@ ghost use mathlib.Core.Path.{_≡_};
 ghost use mathlib.Core.Bool.{not};
 ghost use mathlib.Core.List.{[], _∷_};
 ghost use Prim.Native.Nat.{_+_, _*_, _≤_, _<_};
-ghost use lib.ListN.{length, take};
 ghost use Rattle.read_packs.specs.Packs.{places};
 ghost use Rattle.read_forms.specs.Forms.{modesIn};
 ghost use Rattle.text.specs.Lists.{any};
-ghost use Rattle.resolving.specs.Effects.{everyForm, formsOf, isCat, suits as suits·spec};
+ghost use Rattle.resolving.specs.Effects.{everyForm, formsOf, suits as suits·spec};
 ghost use Rattle.print_writing.specs.Written.{Room, Written};
 ghost use Rattle.resolving.specs.Context.{kindAt};
 ghost use Rattle.resolving.specs.Effects.{against};
@@ -16,13 +15,13 @@ ghost use Rattle.resolve_context.specs.Lists.{Stands, covariatesOf};
 ghost use Rattle.resolve_operands.specs.Picked.{Indexes};
 ghost use Rattle.resolve_terms.specs.Terms.{kindIn, formTerms, covariateTerms, parameterTerms};
 use read_forms::Modes;
+use resolve_context::Kind;
 use resolve_context::Layout;
 
 // The kind of a covariate, where there is a declaration block.
 pub enum SomeKind {
     Undeclared,
-    Continuous,
-    Categorical,
+    Declared(Kind),
 }
 
 // One term, where there is room for it, and the index behind it.
@@ -38,14 +37,13 @@ fn put_term(terms: &mut [u32], at: usize, term: u32) -> usize
     next
 }
 
-// The forms of effect `*`, packed: Cat for a categorical covariate, else the four of CONTINUOUS.
+// The forms of effect `*`, packed: without a block as for a continuous covariate.
 fn every_form(kind: SomeKind) -> u32
     ensures { λ r. ⌜ places r ≡ everyForm (kindIn kind) ⌝ }
 {
     match kind {
-        SomeKind::Undeclared => 0x4321,
-        SomeKind::Continuous => 0x4321,
-        SomeKind::Categorical => 0x5,
+        SomeKind::Undeclared => resolve_context::every_form(Kind::Continuous),
+        SomeKind::Declared(kind) => resolve_context::every_form(kind),
     }
 }
 
@@ -59,23 +57,13 @@ fn forms_of(effects: Modes, kind: SomeKind) -> u32
     }
 }
 
-fn is_cat(form: u32) -> bool
-    ensures { λ r. ⌜ r ≡ isCat form ⌝ }
-{
-    if form == 4 {
-        return true;
-    }
-    form == 5
-}
-
-// Cat and Cat2 suit categorical, the other forms continuous, and without a block all suit.
+// Whether a form suits a covariate: without a block all do.
 fn suits(kind: SomeKind, form: u32) -> bool
     ensures { λ r. ⌜ r ≡ suits·spec (kindIn kind) form ⌝ }
 {
     match kind {
         SomeKind::Undeclared => true,
-        SomeKind::Continuous => !is_cat(form),
-        SomeKind::Categorical => is_cat(form),
+        SomeKind::Declared(kind) => resolve_context::suits(kind, form),
     }
 }
 
@@ -115,10 +103,7 @@ fn kind_of(block: &[u8], lists: &[u32], layout: Layout, index: usize) -> SomeKin
     if !layout.declares {
         return SomeKind::Undeclared;
     }
-    if resolve_context::kind_at(lists, layout.declared, index) == 0 {
-        return SomeKind::Continuous;
-    }
-    SomeKind::Categorical
+    SomeKind::Declared(resolve_context::kind_at(lists, layout.declared, index))
 }
 
 // Whether a form is against the kind of one of the covariates.

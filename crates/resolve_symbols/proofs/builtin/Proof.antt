@@ -6,6 +6,7 @@ use denote.Ref.{now}
 use Rattle.text.specs.Bytes.{bytes}
 use Rattle.labels.specs.Word.{sameWord}
 use Rattle.resolving.specs.Builtins.{builtin}
+use Rattle.resolve_context.specs.declared.Kind.the-variants.{Continuous, Categorical}
 use Rattle.resolve_symbols.specs.declared.Roles.the-variants.{Every, Absorption, Elimination, Distribution, Bioavail}
 use Rattle.resolve_symbols.proofs.Builtins.{chosen, unknown, is-iiv, is-nothing, of-template, of-template-iiv, of-block}
 use Rattle.resolve_symbols.proofs.builtin.Statement.{statement}
@@ -34,8 +35,8 @@ returns c =
     (chosen (is "ELIMINATION") (elimination .if-word5 .ensures) (of-template Elimination)
     (chosen (is "DISTRIBUTION") (distribution .if-word4 .ensures) (of-template Distribution)
     (chosen (is "BIOAVAIL") (bioavail .if-word3 .ensures) (of-template Bioavail)
-    (chosen (is "CONTINUOUS") (continuous .if-word2 .ensures) (of-block 0)
-    (chosen (is "CATEGORICAL") (categorical .if-word .ensures) (of-block 1)
+    (chosen (is "CONTINUOUS") (continuous .if-word2 .ensures) (of-block Continuous)
+    (chosen (is "CATEGORICAL") (categorical .if-word .ensures) (of-block Categorical)
     unknown))))))))))
 
 pub builtin-spec : {M : Type 1} → statement M

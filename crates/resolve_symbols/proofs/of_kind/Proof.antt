@@ -5,9 +5,9 @@ use Prim.Native.Nat.{ℕ}
 use lib.Dec.{eqb}
 use borrow.Author.Needs.{needs}
 use denote.Ref.{now}
-use Rattle.resolving.specs.Context.{Declared, kindNumber}
+use Rattle.resolving.specs.Context.{CovariateKind, Declared, kindNumber}
 use Rattle.resolving.specs.Builtins.{ofKind}
-use Rattle.resolving.specs.Given.{kindOf}
+use Rattle.resolve_context.specs.Kinds.{kindAs}
 use Rattle.resolve_context.proofs.Meaning.{declared-sound, kinds-within}
 use Rattle.resolve_symbols.specs.Brings.{declaredAt}
 use Rattle.resolve_symbols.proofs.Brings.{yields-nothing, yields-pair, declared-taken, declared-left}
@@ -31,19 +31,20 @@ module _ (c : tie.After-same-kind) where
   entry = declaredAt block (now (start .args .lists)) (start .args .layout) (start .args .index)
 
   -- the test that was made is the definition's
-  tested : c .same-kind .result ≡ ofKind (kindOf (start .args .kind)) entry
-  tested = c .same-kind .ensures ∙ ap (λ (k : ℕ). eqb (kindNumber (kindOf (start .args .kind))) (kindNumber (kindOf k))) (c .before .kind-at .ensures)
+  tested : c .same-kind .result ≡ ofKind (kindAs (start .args .kind)) entry
+  tested =
+      c .same-kind .ensures ∙ ap (λ (k : CovariateKind). eqb (kindNumber (kindAs (start .args .kind))) (kindNumber k)) (c .before .kind-at .ensures)
 
 returns : tie.Need-returns
 returns c =
     let k = c .before .before in
     yields-pair (entry k .name) (c .pair-at .ensures .0) (c .pair-at .ensures .1)
-    (declared-taken (ofKind (kindOf (start k .args .kind))) (entry k) (sym (tested k) ∙ c .before .if1 .taken))
+    (declared-taken (ofKind (kindAs (start k .args .kind))) (entry k) (sym (tested k) ∙ c .before .if1 .taken))
 
 returns-2 : tie.Need-returns-2
 returns-2 c =
     let k = c .before in
-    yields-nothing (declared-left (ofKind (kindOf (start k .args .kind))) (entry k) (sym (tested k) ∙ c .if1 .left))
+    yields-nothing (declared-left (ofKind (kindAs (start k .args .kind))) (entry k) (sym (tested k) ∙ c .if1 .left))
 
 pub of-kind-spec : {M : Type 1} → statement M
 of-kind-spec = tie.close (tie.spec kind-at-requires (λ c κs. search needs) pair-at-requires returns returns-2)

@@ -3,12 +3,10 @@
 use Prim.Native.Nat.{ℕ, _<_}
 use mathlib.Core.Path.{_≡_, _∙_, ap, sym, subst}
 use mathlib.Core.Bool.{Bool, true, cond}
-use mathlib.Core.Option.{some}
+use mathlib.Core.Option.{Option, some}
 use denote.Ref.{now}
-use borrow.Author.Tests.{ne-eqb, not-true, not-false}
-use Rattle.resolving.specs.Given.{kindOf}
-use Rattle.resolving.specs.Context.{kindAt}
-use Rattle.resolving.specs.Handed.{handedContext}
+use borrow.Author.Tests.{not-true, not-false}
+use Rattle.resolving.specs.Context.{CovariateKind}
 use Rattle.resolve_context.specs.declared.Layout.{Layout}
 use Rattle.resolve_context.specs.Lists.{covariatesOf}
 use Rattle.resolve_context.proofs.Meaning.{kinds-within, kind-declared, kind-undeclared}
@@ -32,24 +30,13 @@ kind-at-requires c κs =
       kinds-within (now (s .args .block)) (now (s .args .lists)) (s .args .layout) (s .pre .0),
     )
 
--- the kind of a declared covariate
-declared :
-    (c : tie.After-kind-at)
-    → let s = c .before .before .before .before .before in
-    kindAt (handedContext (now (s .args .block)) (now (s .args .lists))) (s .args .index) ≡ some (kindOf (c .kind-at .result))
-declared c =
+returns-2 : tie.Need-returns-2
+returns-2 c =
     let e = c .before in
     let s = e .before .before .before .before in
-    kind-declared (now (s .args .block)) (now (s .args .lists)) (s .args .layout) (s .pre .0) (s .args .index) (not-false _ (e .if1 .left))
-    (in-block (s .args .layout) (s .args .index) (not-false _ (e .if1 .left)) (s .pre .1))
-    ∙ ap (λ k. some (kindOf k)) (sym (c .kind-at .ensures))
-
-returns-2 : tie.Need-returns-2
-returns-2 c = sym (declared (c .before) ∙ ap (λ k. some (kindOf k)) (c .if2 .taken))
-
-returns-3 : tie.Need-returns-3
-returns-3 c =
-    sym (declared (c .before) ∙ simp (ne-eqb _ _ (c .if2 .left)))
+    ap {B = Option CovariateKind} some (c .kind-at .ensures)
+    ∙ sym (kind-declared (now (s .args .block)) (now (s .args .lists)) (s .args .layout) (s .pre .0) (s .args .index) (not-false _ (e .if1 .left))
+    (in-block (s .args .layout) (s .args .index) (not-false _ (e .if1 .left)) (s .pre .1)))
 
 pub kind-of-spec : {M : Type 1} → statement M
-kind-of-spec = tie.close (tie.spec returns kind-at-requires returns-2 returns-3)
+kind-of-spec = tie.close (tie.spec returns kind-at-requires returns-2)

@@ -1,7 +1,6 @@
 -- `resolve_terms::suits` meets its contract.
 -- Assumes nothing.
 use mathlib.Core.Path.{_∙_, ap, sym}
-use mathlib.Core.Bool.{not}
 use borrow.Author.Needs.{needs}
 use Rattle.resolving.specs.Effects.{suits}
 use Rattle.resolve_terms.specs.Terms.{kindIn}
@@ -13,23 +12,8 @@ returns c = sym (ap (λ k. suits (kindIn k) (c .before .before .args .form)) (c 
 
 returns-2 : tie.Need-returns-2
 returns-2 c =
-    let t = c .before in
-    ap not (c .is-cat .ensures) ∙ sym (ap (λ k. suits (kindIn k) (t .before .before .args .form)) (t .enum-told2 .given .1))
-
-returns-3 : tie.Need-returns-3
-returns-3 c =
-    let t = c .before in
-    c .is-cat2 .ensures ∙ sym (ap (λ k. suits (kindIn k) (t .before .before .args .form)) (t .enum-told3 .given .1))
+    let k = c .before .before in
+    c .suits .ensures ∙ sym (ap (λ x. suits (kindIn x) (k .before .before .args .form)) (k .kind .given .1))
 
 pub suits-spec : {M : Type 1} → statement M
-suits-spec =
-    tie.close
-    (tie.spec
-    (λ c. search needs)
-    (λ c. search needs)
-    (λ c κs. search needs)
-    (λ c. search needs)
-    (λ c κs. search needs)
-    returns
-    returns-2
-    returns-3)
+suits-spec = tie.close (tie.spec (λ c. search needs) (λ c. search needs) (λ c κs. search needs) returns returns-2)

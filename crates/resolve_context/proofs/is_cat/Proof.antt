@@ -1,8 +1,7 @@
--- `resolve_terms::is_cat` meets its contract.
--- Assumes nothing.
+-- `resolve_context::is_cat` meets its contract. Assumes nothing.
 use borrow.Author.Tests.{eq-eqb, ne-eqb}
-use Rattle.resolve_terms.proofs.is_cat.Statement.{statement}
-use Rattle.resolve_terms.proofs.is_cat.Tie as tie
+use Rattle.resolve_context.proofs.is_cat.Statement.{statement}
+use Rattle.resolve_context.proofs.is_cat.Tie as tie
 
 returns : tie.Need-returns
 returns c = simp (eq-eqb _ _ (c .if1 .taken))
