@@ -15,8 +15,6 @@ use Rattle.reading.specs.One.{halted}
 use Rattle.reading.specs.Syntax.{Call, Step, more, overfull, item, itemRead, turn}
 use Rattle.read_forms.specs.Items.{tokensFrom, rest, anEntry, entryAs, entryAhead, Entered, entries, afterEntries, listed}
 use Rattle.read_forms.proofs.Entries.{entries-ahead, listed-ahead, after-ahead}
--- resolve_operands names it here
-pub use Rattle.read_forms.proofs.Entries.{entries-more}
 use Rattle.tokens.proofs.Steps.{token}
 use Rattle.tokens.proofs.Views.{Reads, Known, aWord, aNumber, aMark, aStray, theEnd}
 use Rattle.read_arguments.specs.declared.Entry.{Entry}

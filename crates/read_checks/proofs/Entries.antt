@@ -6,21 +6,20 @@ use mathlib.Core.List.{List, [], _∷_}
 use Prim.Native.Nat.{ℕ, _-_, _≤_}
 use native.Mathlib.Omega.{arith}
 use lib.ListN.{length}
-use Rattle.tokens.specs.Token.{Shape, word, number, mark, Tokens, finish, bad, _▸_}
+use Rattle.tokens.specs.Token.{Shape, Tokens}
 use Rattle.tokens.specs.declared.Lexed.{Lexed}
 use Rattle.tokens.specs.declared.Lexed.the-variants as lexed
 use Rattle.tokens.specs.declared.Token as kinds
 use Rattle.tokens.specs.Next.{first, byKind, tokenAt}
 use Rattle.tokens.proofs.Steps.{token, at-end}
 use Rattle.tokens.proofs.Views.{Reads, Tells, told, Known, aWord, aNumber, aMark, aStray, theEnd, known}
-use Rattle.reading.specs.Statement.{Item}
 use Rattle.read_forms.specs.declared.Items.{Items}
-use Rattle.read_forms.specs.Items.{tokensFrom, rest, anEntry, byEntry, entryAs, entryAhead, Entered, entries, itemsIn, listed}
+use Rattle.read_forms.specs.Items.{tokensFrom, rest, anEntry, entryAs, entryAhead, Entered, entries, itemsIn, listed}
 use Rattle.read_forms.specs.Fits.{Listed}
 use Rattle.read_forms.proofs.Entries.{entries-length}
 use Rattle.read_forms.proofs.Lists.{items-are}
 use Rattle.read_checks.specs.declared.Entry as checked
-use Rattle.read_checks.specs.Answers.{kindOf, entryIn, NextEntry, EntryHere}
+use Rattle.read_checks.specs.Answers.{kindOf, entryIn, NextEntry}
 
 -- a list that has entries is not empty
 pub listed-some : (s : List ℕ) (is : Items) → Listed s is → (is .count ≡ 0 → ⊥) → itemsIn s is ≡ [] → ⊥
@@ -93,39 +92,3 @@ entry-from s o h =
     let t = tokenAt s o in
     let u = tokenAt s (t .next .at) in
     record { found = entryBy t u; next = next-here s o t u refl h (known s o t refl) .entry }
-
--- What follows is for an entry and the token behind it read by two calls, as resolve_operands does.
-
-abbrev pub entryOf : kinds.Token → checked.Entry
-entryOf t = entryBy t t
-
-pub record Entry (s : List ℕ) (o : ℕ) (t : kinds.Token) : Type 0 where
-  pub ahead : t .start ≤ t .next .at
-  pub here : EntryHere s o (entryOf t)
-
-pub entry-here : (s : List ℕ) (o : ℕ) (t : kinds.Token) → listed 1 (tokensFrom s o) ≡ true → Known s o t → Entry s o t
-unfolding entries listed entryAhead
-entry-here s o t h (aWord e r) =
-    record {
-      ahead = omega arith;
-      here = record { inside = omega arith; entry = simp (r .tokens, e); behind = behind s o t (aWord e r) };
-    }
-entry-here s o t h (aNumber e r) =
-    record {
-      ahead = omega arith;
-      here = record { inside = omega arith; entry = simp (r .tokens, e); behind = behind s o t (aNumber e r) };
-    }
-entry-here s o t h (aMark e r) = absurd (false≢true (sym (ap (listed 1) (r .tokens)) ∙ h))
-entry-here s o t h (aStray e f g) = absurd (false≢true (sym (ap (listed 1) f) ∙ h))
-entry-here s o t h (theEnd e f a b) = absurd (false≢true (sym (ap (listed 1) f) ∙ h))
-
-pub one-entered : (ts us vs : Tokens) (i : Item) → entries 1 ts ≡ i ∷ [] → rest ts ≡ us → rest us ≡ vs → Entered ts i vs
-unfolding entries entryAhead
-one-entered finish us vs i e f g = let z : _≡_ {A = ℕ} 0 1 = cc in absurd (omega arith)
-one-entered (bad o) us vs i e f g = let z : _≡_ {A = ℕ} 0 1 = cc in absurd (omega arith)
-one-entered (t ▸ ts) us vs i e f g = record { ahead = by-shape (t .shape) e }
-  where
-    by-shape : (x : Shape) → byEntry (entryAs (t .place) x (rest ts)) [] (λ j ws. j ∷ []) ≡ i ∷ [] → entryAs (t .place) x (rest ts) ≡ anEntry i vs
-    by-shape (word w) k = cc
-    by-shape (number w) k = cc
-    by-shape (mark m) k = cc

@@ -12,7 +12,7 @@ use Rattle.reading.specs.Argument.{firsts, modeList}
 use Rattle.read_forms.specs.declared.Refusal.{Refusal}
 use Rattle.read_forms.specs.declared.Kind as kinds
 use Rattle.read_forms.specs.declared.Kind.the-variants as kind
-use Rattle.read_forms.specs.Items.{tokensFrom, nameIn, kindAs, Entered, entries, rest, itemsIn}
+use Rattle.read_forms.specs.Items.{tokensFrom, nameIn, kindAs, Entered, entries, itemsIn}
 use Rattle.read_forms.specs.Fits.{InText}
 use Rattle.read_forms.specs.Forms.{modesIn, countsIn, operandIn, opAs}
 use Rattle.read_checks.specs.declared
@@ -86,9 +86,3 @@ pub record NextEntry (s : List ℕ) (o : ℕ) (r : declared.Entry.Entry) : Type 
   pub here : Entered (tokensFrom s o) (entryIn s r) (tokensFrom s (r .next .at))
   pub ahead : o ≤ r .name .offset
   pub behind : r .name .offset + r .name .length ≤ r .next .at
-
--- the same with the cursor right behind the name
-pub record EntryHere (s : List ℕ) (o : ℕ) (r : declared.Entry.Entry) : Type 0 where
-  pub inside : InText s (r .name)
-  pub entry : entries 1 (tokensFrom s o) ≡ entryIn s r ∷ []
-  pub behind : rest (tokensFrom s o) ≡ tokensFrom s (r .next .at)

@@ -15,10 +15,10 @@ ghost use Rattle.labels.specs.Table.{labelTable, foundAs};
 ghost use Rattle.reading.specs.Statement.{aWord, aNumber};
 ghost use Rattle.reading.specs.Argument.{array, placeOf, loneMode, loneCount, countList, modesOf, countsOf, operandOf, itemsOf};
 ghost use Rattle.reading.specs.Feature.{isN, operatorOf, nameOf};
-ghost use Rattle.read_forms.specs.Items.{tokensFrom, nameIn, itemsIn, listed, rest};
+ghost use Rattle.read_forms.specs.Items.{tokensFrom, nameIn, itemsIn, listed};
 ghost use Rattle.read_forms.specs.Forms.{argIn, valuesIn};
 ghost use Rattle.read_forms.specs.Fits.{InText, Listed, Stands, Fits};
-ghost use Rattle.read_checks.specs.Answers.{checkedAs, modesAs, countsAs, operandAs, itemsAs, nameAs, opReadAs, NextEntry, EntryHere, kindOf, ofWord, modesListed};
+ghost use Rattle.read_checks.specs.Answers.{checkedAs, modesAs, countsAs, operandAs, itemsAs, nameAs, opReadAs, NextEntry, kindOf, ofWord, modesListed};
 use counts::Counted;
 use labels::Family;
 use labels::Found;
@@ -116,33 +116,6 @@ pub fn next_entry(text: &[u8], classes: &Classes, cur: Cursor) -> Entry
         name,
         next,
     }
-}
-
-// The same with the cursor right behind the entry, which `past_comma` takes on: for resolve_operands, until it reads by `next_entry`.
-pub fn entry_at(text: &[u8], classes: &Classes, cur: Cursor) -> Entry
-    requires { ⌜ (now classes ≡ classTable) × (listed 1 (tokensFrom (now text) (cur .at)) ≡ true) ⌝ }
-    ensures { λ r. ⌜ EntryHere (now (text .entry)) (cur .at) r ⌝ }
-{
-    let token = cur.token(text, classes);
-    let next = token.next;
-    let name = Name {
-        offset: token.start,
-        length: next.at - token.start,
-    };
-    Entry {
-        kind: kind_of(token.kind),
-        name,
-        next,
-    }
-}
-
-// The cursor behind the next token: the `,` between two entries.
-pub fn past_comma(text: &[u8], classes: &Classes, cur: Cursor) -> Cursor
-    requires { ⌜ now classes ≡ classTable ⌝ }
-    ensures { λ r. ⌜ rest (tokensFrom (now (text .entry)) (cur .at)) ≡ tokensFrom (now (text .entry)) (r .at) ⌝ }
-{
-    let token = cur.token(text, classes);
-    token.next
 }
 
 // A name's bytes looked up in a family.

@@ -14,15 +14,14 @@ use Rattle.read_forms.specs.declared.Name.{Name}
 use Rattle.read_forms.specs.declared.Kind.{Kind}
 use Rattle.read_forms.specs.declared.Kind.the-variants.{Word, Number}
 use Rattle.read_forms.specs.declared.Items.{Items}
-use Rattle.read_forms.specs.Items.{tokensFrom, kindAs, rest, Entered, entries, afterEntries, listed, itemsIn}
+use Rattle.read_forms.specs.Items.{tokensFrom, kindAs, Entered, entries, afterEntries, listed, itemsIn}
 use Rattle.read_forms.proofs.Entries.{entries-ahead, after-ahead, next-listed, entries-more, after-more}
 -- resolve_operands names it here
-pub use Rattle.read_forms.proofs.Entries.{first-listed}
+use Rattle.read_forms.proofs.Entries.{first-listed}
 use Rattle.read_forms.proofs.Lists.{items-are}
 use Rattle.read_forms.specs.Fits.{InText, Listed}
 use Rattle.read_checks.specs.declared.Entry as checked
-use Rattle.read_checks.specs.Answers.{entryIn, NextEntry, EntryHere}
-use Rattle.read_checks.proofs.Entries.{one-entered}
+use Rattle.read_checks.specs.Answers.{entryIn, NextEntry}
 use Rattle.read_lists.specs.Lists.{kindFor, itemFor}
 
 pub map-append : {A B : Type 0} (f : A → B) (xs ys : List A) → map f (xs ++ ys) ≡ map f xs ++ map f ys
@@ -66,10 +65,6 @@ module _ (s : List ℕ) (is : Items) (i o : ℕ) (l : Listed s is) (g : Come s i
     pub come-on : Come s is (i + 1) p
     unfolding afterEntries
     come-on = record { here = rw add-one (after-more i all those-listed ∙ ap (afterEntries 1) (g .here) ∙ after-ahead e 0); most = omega arith }
-
-  -- the same where the entry and the token behind it are read by two calls, as resolve_operands does
-  pub next-come : (r : checked.Entry) → EntryHere s o r → (p : ℕ) → rest (tokensFrom s (r .next .at)) ≡ tokensFrom s p → Come s is (i + 1) p
-  next-come r t p e = come-on p (one-entered (tokensFrom s o) (tokensFrom s (r .next .at)) (tokensFrom s p) (entryIn s r) (t .entry) (t .behind) e)
 
 -- the whole list was read
 pub come-last : (s : List ℕ) (is : Items) (i o : ℕ) → Listed s is → Come s is i o → is .count ≤ i → entries i (tokensFrom s (is .first .at)) ≡ itemsIn s is

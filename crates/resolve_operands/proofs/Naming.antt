@@ -10,13 +10,13 @@ use Rattle.reading.specs.Statement.{Item}
 use Rattle.resolving.specs.Handed.{handedContext}
 use Rattle.text.proofs.Appended.{map-append}
 use Rattle.read_forms.specs.declared.Items.{Items}
-use Rattle.read_forms.specs.Items.{tokensFrom, entries, afterEntries, listed, itemsIn, rest}
+use Rattle.read_forms.specs.Items.{tokensFrom, entries, afterEntries, listed, itemsIn}
 use Rattle.read_forms.specs.Fits.{Listed}
 use Rattle.read_forms.proofs.Lists.{items-are}
-use Rattle.read_arguments.proofs.Entries.{entries-more}
+use Rattle.read_forms.proofs.Entries.{entries-ahead, first-listed, entries-more}
 use Rattle.read_checks.specs.declared.Entry.{Entry}
-use Rattle.read_checks.specs.Answers.{EntryHere}
-use Rattle.read_lists.proofs.Filling.{Come, first-listed, next-stands, next-come}
+use Rattle.read_checks.specs.Answers.{NextEntry}
+use Rattle.read_lists.proofs.Filling.{Come, next-stands, come-on}
 use Rattle.resolve_context.specs.declared.Layout.{Layout}
 use Rattle.resolve_context.specs.Lists.{Stands}
 use Rattle.resolve_symbols.specs.declared.Source.{Source}
@@ -71,9 +71,10 @@ module _ (s : List ℕ) (is : Items) (i o : ℕ) (f : Listed s is) (h : i < is .
   entry-stands = next-stands s is i o f come h
 
   -- it brings its own bytes, and the next one is read behind it
-  module _ (r : Entry) (t : EntryHere s o r) where
+  module _ (r : Entry) (t : NextEntry s o r) where
     pub entry-named : spelledIn s (r .name) ∷ [] ≡ valueAt s is i
-    entry-named = sym (ap (λ (ts : Tokens). map (word s is) (entries 1 ts)) g ∙ ap (map (word s is)) (t .entry))
+    unfolding entries
+    entry-named = sym (ap (λ (ts : Tokens). map (word s is) (entries 1 ts)) g ∙ ap (map (word s is)) (entries-ahead (t .here) 0))
 
-    pub next-read : (p : ℕ) → rest (tokensFrom s (r .next .at)) ≡ tokensFrom s p → EntryAt s (Values is) (i + 1) p
-    next-read p q = next-come s is i o f come h r t p q .here
+    pub next-read : EntryAt s (Values is) (i + 1) (r .next .at)
+    next-read = come-on s is i o f come h (r .next .at) (t .here) .here

@@ -114,11 +114,12 @@ fn next_name(
 {
     match source {
         Source::Values(items) => {
-            let entry = read_checks::entry_at(text, classes, cur);
+            let entry = read_checks::next_entry(text, classes, cur);
             let name = entry.name;
+            let next = entry.next;
             NextName {
                 named: Named::Text(name),
-                next: read_checks::past_comma(text, classes, entry.next),
+                next,
             }
         }
         Source::Given(listing) => NextName {
