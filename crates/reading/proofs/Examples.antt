@@ -10,17 +10,21 @@ use mathlib.Core.Option.{some, none}
 use lib.ListN.{length}
 use Rattle.text.specs.Bytes.{bytes}
 use Rattle.tokens.specs.Class.{classOf}
+use Rattle.tokens.specs.Token.{separator, finish, _▸_}
 use Rattle.tokens.specs.Lex.{fraction, numberRest, dots, frontOf, follow, tokensAfter, tokens}
 use Rattle.tokens.specs.Next.{scanned}
 use Rattle.counts.specs.Count.{countOf}
 use Rattle.counts.specs.Decimal.{digitsIn}
 use Rattle.labels.specs.declared.Family.the-variants.{
   AbsorptionMode,
+  EliminationMode,
   PeripheralKind,
   DepotMode,
+  LagtimeMode,
   CovariateEffect,
   PdMode,
   ProductionMode,
+  MetaboliteMode,
   VariabilityEffect,
   VariabilityLevel,
 }
@@ -77,12 +81,13 @@ use Rattle.reading.specs.Parts.{
   featureParts,
   partsOf,
 }
-use Rattle.reading.specs.Answer.{Answer, accepted, refused}
+use Rattle.reading.specs.Answer.{Answer, accepted, refused, refusedIf}
 use Rattle.reading.specs.Calls.{counting, stating}
 use Rattle.reading.specs.Argument.{placeOf, countAt, rangeOf, itemsOf, operandOf, modeList, firsts, modesOf, countList, countsOf}
 use Rattle.reading.specs.Feature.{keywordOf, transitsOf, explicit, operatorOf, nameOf, featureOf, buildFeature}
-use Rattle.reading.specs.Syntax.{name, itemAs, opened, featureMade, letMade, closed, turn}
+use Rattle.reading.specs.Syntax.{featureCall, argument, name, itemAs, opened, featureMade, letMade, closed, turn}
 use Rattle.reading.specs.Read.{between, ended, readFrom, readText}
+use Rattle.reading.specs.One.{One, whole, halted, readOne}
 
 -- What becomes of a text: so many statements stand, or it is refused by a number at a place.
 pub data Outcome : Type 0 where
@@ -122,6 +127,32 @@ faults =
     ∷ ("LET(1,B)" ⟶ refusal 3 4)
     ∷ ("LET(A)" ⟶ refusal 3 5)
     ∷ ("LET(A,B,C)" ⟶ refusal 3 7)
+    -- of each state the tokens that it does not allow: where a statement starts, after a keyword, after its `?`, in a LET, where an argument
+    -- starts, after `@`, after a number, after `..`, in an array, after its entry, after an argument
+    ∷ ("1(ON)" ⟶ refusal 3 0)
+    ∷ ("LAGTIME 1" ⟶ refusal 3 8)
+    ∷ ("LAGTIME)" ⟶ refusal 3 7)
+    ∷ ("IIV?CL" ⟶ refusal 3 4)
+    ∷ ("IIV?1" ⟶ refusal 3 4)
+    ∷ ("IIV??(CL,EXP)" ⟶ refusal 3 4)
+    ∷ ("LET A" ⟶ refusal 3 4)
+    ∷ ("LET 1" ⟶ refusal 3 4)
+    ∷ ("LET(*,B)" ⟶ refusal 3 4)
+    ∷ ("LET(A B)" ⟶ refusal 3 6)
+    ∷ ("LET(A 1)" ⟶ refusal 3 6)
+    ∷ ("LET(A,)" ⟶ refusal 3 6)
+    ∷ ("LAGTIME(,ON)" ⟶ refusal 3 8)
+    ∷ ("IIV(@*,EXP)" ⟶ refusal 3 5)
+    ∷ ("PERIPHERALS(1 x)" ⟶ refusal 3 14)
+    ∷ ("PERIPHERALS(1 2)" ⟶ refusal 3 14)
+    ∷ ("PERIPHERALS(1(" ⟶ refusal 3 13)
+    ∷ ("PERIPHERALS(1..*)" ⟶ refusal 3 15)
+    ∷ ("IIV([,CL],EXP)" ⟶ refusal 3 5)
+    ∷ ("IIV([CL V],EXP)" ⟶ refusal 3 8)
+    ∷ ("IIV([CL 1],EXP)" ⟶ refusal 3 8)
+    ∷ ("LAGTIME(ON OFF)" ⟶ refusal 3 11)
+    ∷ ("LAGTIME(ON 1)" ⟶ refusal 3 11)
+    ∷ ("LAGTIME(ON(" ⟶ refusal 3 10)
     -- 4: a count; 5: a range backwards; both ends before that, and a range before its keyword
     ∷ ("PERIPHERALS(65)" ⟶ refusal 4 12)
     ∷ ("PERIPHERALS(1.0)" ⟶ refusal 4 12)
@@ -129,6 +160,7 @@ faults =
     ∷ ("PERIPHERALS(66..65)" ⟶ refusal 4 12)
     ∷ ("PERIPHERALS(2..65)" ⟶ refusal 4 15)
     ∷ ("PERIPHERALS([1,65,a])" ⟶ refusal 4 15)
+    ∷ ("PERIPHERALS([65,66])" ⟶ refusal 4 13)
     ∷ ("TRANSITS(4294967296)" ⟶ refusal 4 9)
     ∷ ("FOO(1..65)" ⟶ refusal 4 7)
     ∷ ("PERIPHERALS(2..1)" ⟶ refusal 5 12)
@@ -141,29 +173,75 @@ faults =
     ∷ ("COVARIATE(CL,WT)" ⟶ refusal 8 0)
     ∷ ("COVARIATE(CL,WT,lin,+,+)" ⟶ refusal 8 0)
     ∷ ("IIV(CL)" ⟶ refusal 8 0)
+    ∷ ("LAGTIME(ON,OFF)" ⟶ refusal 8 0)
+    ∷ ("PERIPHERALS()" ⟶ refusal 8 0)
+    ∷ ("IIV()" ⟶ refusal 8 0)
+    ∷ ("IIV(CL,EXP,ADD)" ⟶ refusal 8 0)
+    ∷ ("COVARIATE()" ⟶ refusal 8 0)
+    ∷ ("COVARIATE(CL)" ⟶ refusal 8 0)
     ∷ ("LAGTIME?(NO)" ⟶ refusal 10 9)
     ∷ ("PERIPHERALS?(65)" ⟶ refusal 4 13)
     ∷ ("ABSORPTION?(*)" ⟶ refusal 7 0)
     ∷ ("ALLOMETRY?(WT)" ⟶ refusal 7 0)
+    ∷ ("PERIPHERALS?(1)" ⟶ refusal 7 0)
+    ∷ ("TRANSITS?(N)" ⟶ refusal 7 0)
+    ∷ ("INDIRECTEFFECT?(*,*)" ⟶ refusal 7 0)
     ∷ ("IIV(+,NO)" ⟶ refusal 9 4)
     ∷ ("IIV(CL,NO)" ⟶ refusal 10 7)
+    ∷ ("PERIPHERALS(x,NO)" ⟶ refusal 9 12)
+    ∷ ("TRANSITS(x,NO)" ⟶ refusal 9 9)
+    ∷ ("COVARIATE(+,+,NO,1)" ⟶ refusal 9 10)
+    ∷ ("COVARIATE(CL,+,NO,1)" ⟶ refusal 9 13)
+    ∷ ("COVARIATE(CL,WT,NO,1)" ⟶ refusal 10 16)
+    ∷ ("ALLOMETRY(1,x)" ⟶ refusal 9 10)
+    ∷ ("INDIRECTEFFECT(NO,NO)" ⟶ refusal 10 15)
+    ∷ ("COVARIANCE(NO,+)" ⟶ refusal 10 11)
     -- 9: an argument of a wrong kind, and 10: an unknown mode; of an array of counts a word is refused at the array, a number at itself
     ∷ ("ABSORPTION(1)" ⟶ refusal 9 11)
     ∷ ("ABSORPTION([])" ⟶ refusal 9 11)
     ∷ ("ABSORPTION([1])" ⟶ refusal 10 12)
     ∷ ("ABSORPTION([FO,XX])" ⟶ refusal 10 15)
+    ∷ ("ABSORPTION([XX,YY])" ⟶ refusal 10 12)
+    ∷ ("ABSORPTION(+)" ⟶ refusal 9 11)
+    ∷ ("ABSORPTION(@A)" ⟶ refusal 9 11)
+    ∷ ("ABSORPTION(1..2)" ⟶ refusal 9 11)
     ∷ ("PERIPHERALS(*)" ⟶ refusal 9 12)
+    ∷ ("PERIPHERALS(+)" ⟶ refusal 9 12)
+    ∷ ("PERIPHERALS(@A)" ⟶ refusal 9 12)
+    ∷ ("PERIPHERALS(x)" ⟶ refusal 9 12)
+    ∷ ("PERIPHERALS([1,a])" ⟶ refusal 9 12)
+    ∷ ("PERIPHERALS([])" ⟶ refusal 9 12)
     ∷ ("PERIPHERALS([65,a])" ⟶ refusal 4 13)
     ∷ ("PERIPHERALS([a,65])" ⟶ refusal 9 12)
     ∷ ("TRANSITS(N,*)" ⟶ refusal 9 11)
+    ∷ ("TRANSITS(N,+)" ⟶ refusal 9 11)
+    ∷ ("TRANSITS(N,@A)" ⟶ refusal 9 11)
+    ∷ ("TRANSITS(N,DEPOT)" ⟶ refusal 9 11)
+    ∷ ("TRANSITS(N,1..2)" ⟶ refusal 9 11)
+    ∷ ("TRANSITS(N,[DEPOT])" ⟶ refusal 9 11)
+    ∷ ("TRANSITS(*)" ⟶ refusal 9 9)
+    ∷ ("TRANSITS(+)" ⟶ refusal 9 9)
+    ∷ ("TRANSITS(@N)" ⟶ refusal 9 9)
     ∷ ("TRANSITS([N])" ⟶ refusal 9 9)
     ∷ ("COVARIATE(CL,WT,*)" ⟶ refusal 9 16)
     ∷ ("COVARIATE(CL,WT,*,1)" ⟶ refusal 9 16)
     ∷ ("COVARIATE(CL,WT,lin,1)" ⟶ refusal 9 20)
+    ∷ ("COVARIATE(CL,WT,lin,@A)" ⟶ refusal 9 20)
+    ∷ ("COVARIATE(CL,WT,lin,1..2)" ⟶ refusal 9 20)
+    ∷ ("COVARIATE(CL,WT,lin,[])" ⟶ refusal 9 20)
+    ∷ ("COVARIATE(CL,WT,lin,[A])" ⟶ refusal 9 20)
     ∷ ("COVARIATE([],WT,lin)" ⟶ refusal 9 10)
+    ∷ ("IIV(1..2,EXP)" ⟶ refusal 9 4)
     ∷ ("ALLOMETRY(1)" ⟶ refusal 9 10)
+    ∷ ("ALLOMETRY(*)" ⟶ refusal 9 10)
+    ∷ ("ALLOMETRY(+)" ⟶ refusal 9 10)
+    ∷ ("ALLOMETRY(@A)" ⟶ refusal 9 10)
+    ∷ ("ALLOMETRY(1..2)" ⟶ refusal 9 10)
+    ∷ ("ALLOMETRY([A])" ⟶ refusal 9 10)
     ∷ ("ALLOMETRY(WT,x)" ⟶ refusal 9 13)
     ∷ ("LET(A,*)" ⟶ refusal 9 6)
+    ∷ ("LET(A,+)" ⟶ refusal 9 6)
+    ∷ ("LET(A,1..2)" ⟶ refusal 9 6)
     ∷ ("LET(A,@B)" ⟶ refusal 9 6)
     ∷ ("LET(A,[])" ⟶ refusal 9 6)
     -- 11: a 65th entry, before the keyword and before an entry that is none
@@ -188,6 +266,12 @@ blanks (suc n) = 32 ∷ blanks n
 pub too-long : readText 64 (blanks 16385) ≡ refused 1 0
 unfolding readText
 too-long = refl
+
+-- 16,384 bytes are not too long: the byte that starts no token is what is said.
+pub long-enough : readText 64 (36 ∷ blanks 16383) ≡ refused 2 0
+unfolding readText
+    scanned tokensAfter follow frontOf dots numberRest fraction classOf digitsIn
+long-enough = refl
 
 -- 21 comes before 1.
 pub too-high-first : readText 257 (blanks 16385) ≡ refused 21 0
@@ -249,8 +333,9 @@ behind n s = outcome (readFrom 64 (length (bytes s)) n ended (tokens (bytes s)))
 
 pub many-checked :
     (after 255 "LAGTIME(ON)" ∷ after 255 ";LAGTIME(ON);LAGTIME(ON)" ∷ after 256 "" ∷ after 256 ";\n;" ∷ after 256 ";(" ∷ after 255 ";("
-    ∷ behind 256 " (" ∷ behind 255 " (" ∷ [])
-    ≡ (stands 1 ∷ refusal 11 13 ∷ stands 0 ∷ stands 0 ∷ refusal 11 1 ∷ refusal 3 1 ∷ refusal 11 1 ∷ refusal 3 1 ∷ [])
+    ∷ behind 256 " (" ∷ behind 255 " (" ∷ behind 256 "" ∷ behind 256 ";(" ∷ behind 0 ";$" ∷ [])
+    ≡ (stands 1 ∷ refusal 11 13 ∷ stands 0 ∷ stands 0 ∷ refusal 11 1 ∷ refusal 3 1 ∷ refusal 11 1 ∷ refusal 3 1
+    ∷ stands 0 ∷ refusal 11 1 ∷ refusal 2 1 ∷ [])
 unfolding readText readFrom turn opened featureMade letMade closed
     buildFeature featureOf keywordOf transitsOf explicit operatorOf nameOf
     placeOf countAt rangeOf itemsOf operandOf modeList firsts modesOf countList countsOf
@@ -282,11 +367,14 @@ readings =
     ∷ (" ;\n# no ( $\n;" reads [])
     ∷ ("absorption([fo,ZO,FO])" reads (feature (Absorption (modes (1 ∷ 2 ∷ []))) ∷ []))
     ∷ ("ELIMINATION(*);LAGTIME(on)" reads (feature (Elimination allModes) ∷ feature (Lagtime (modes (1 ∷ []))) ∷ []))
+    ∷ ("ELIMINATION(MIX-FO-MM)" reads (feature (Elimination (modes (3 ∷ []))) ∷ []))
     ∷ ("PERIPHERALS(0000000000064)" reads (feature (Peripherals (count 64) none) ∷ []))
     ∷ ("PERIPHERALS(2..2,MET)" reads (feature (Peripherals (range 2 2) (some (modes (1 ∷ [])))) ∷ []))
     ∷ ("TRANSITS([3,0,3],*)" reads (feature (Transits (counted (counts (3 ∷ 0 ∷ 3 ∷ []))) (some allModes)) ∷ []))
     ∷ ("TRANSITS(n)" reads (feature (Transits estimated none) ∷ []))
+    ∷ ("TRANSITS(1..2,NODEPOT)" reads (feature (Transits (counted (range 1 2)) (some (modes (1 ∷ [])))) ∷ []))
     ∷ ("COVARIATE?(*,@PK,*,*)" reads (feature (Covariate true everyone (symbol (as-written 14 "PK")) allModes multiply) ∷ []))
+    ∷ ("COVARIATE(CL,*,lin)" reads (feature (Covariate false (names (as-written 10 "CL" ∷ [])) everyone (modes (0 ∷ [])) multiply) ∷ []))
     ∷ ("COVARIATE([CL,CL],70,exp,+)"
     reads (feature
     (Covariate false (names (as-written 11 "CL" ∷ as-written 14 "CL" ∷ [])) (names (as-written 18 "70" ∷ [])) (modes (2 ∷ [])) add)
@@ -294,6 +382,7 @@ readings =
     ∷ ("ALLOMETRY(Wt,70.5)" reads (feature (Allometry (as-written 10 "Wt") (some (as-written 13 "70.5"))) ∷ []))
     ∷ ("DIRECTEFFECT(STEP)" reads (feature (DirectEffect (modes (3 ∷ []))) ∷ []))
     ∷ ("EFFECTCOMP(*)" reads (feature (EffectComp allModes) ∷ []))
+    ∷ ("EFFECTCOMP(LOGLIN)" reads (feature (EffectComp (modes (4 ∷ []))) ∷ []))
     ∷ ("INDIRECTEFFECT([EMAX,LINEAR],DEGRADATION)" reads (feature (IndirectEffect (modes (1 ∷ 0 ∷ [])) (modes (1 ∷ []))) ∷ []))
     ∷ ("METABOLITE(PSC)" reads (feature (Metabolite (modes (1 ∷ []))) ∷ []))
     ∷ ("IIV?(CL,EXP)" reads (feature (Iiv true (names (as-written 5 "CL" ∷ [])) (modes (0 ∷ []))) ∷ []))
@@ -327,15 +416,21 @@ the-parts (refused n p) = []
 abbrev pub apart : List Taken
 apart =
     ("ABSORPTION(FO)" has taken 0 false (modesPart AbsorptionMode (modes (1 ∷ [])) ∷ []))
+    ∷ ("ELIMINATION(FO)" has taken 1 false (modesPart EliminationMode (modes (0 ∷ [])) ∷ []))
     ∷ ("PERIPHERALS(1)" has taken 2 false (countsPart (count 1) ∷ omitted ∷ []))
     ∷ ("PERIPHERALS(1,DRUG)" has taken 2 false (countsPart (count 1) ∷ modesPart PeripheralKind (modes (0 ∷ [])) ∷ []))
     ∷ ("TRANSITS(N)" has taken 3 false (estimatedPart ∷ omitted ∷ []))
     ∷ ("TRANSITS(1,DEPOT)" has taken 3 false (countsPart (count 1) ∷ modesPart DepotMode (modes (0 ∷ [])) ∷ []))
+    ∷ ("LAGTIME(*)" has taken 4 false (modesPart LagtimeMode allModes ∷ []))
     ∷ ("COVARIATE?(CL,*,cat,+)"
     has taken 5 true
     (operandPart (names (as-written 11 "CL" ∷ [])) ∷ operandPart everyone ∷ modesPart CovariateEffect (modes (4 ∷ [])) ∷ operatorPart add ∷ []))
     ∷ ("ALLOMETRY(WT,70)" has taken 6 false (namePart (as-written 10 "WT") ∷ namePart (as-written 13 "70") ∷ []))
+    ∷ ("ALLOMETRY(WT)" has taken 6 false (namePart (as-written 10 "WT") ∷ omitted ∷ []))
+    ∷ ("DIRECTEFFECT(*)" has taken 7 false (modesPart PdMode allModes ∷ []))
+    ∷ ("EFFECTCOMP(*)" has taken 8 false (modesPart PdMode allModes ∷ []))
     ∷ ("INDIRECTEFFECT(*,DEGRADATION)" has taken 9 false (modesPart PdMode allModes ∷ modesPart ProductionMode (modes (1 ∷ [])) ∷ []))
+    ∷ ("METABOLITE(*)" has taken 10 false (modesPart MetaboliteMode allModes ∷ []))
     ∷ ("IIV(*,EXP)" has taken 11 false (operandPart everyone ∷ modesPart VariabilityEffect (modes (0 ∷ [])) ∷ []))
     ∷ ("IOV?(@X,*)" has taken 12 true (operandPart (symbol (as-written 6 "X")) ∷ modesPart VariabilityEffect allModes ∷ []))
     ∷ ("COVARIANCE?(IOV,*)" has taken 13 true (modesPart VariabilityLevel (modes (1 ∷ [])) ∷ operandPart everyone ∷ []))
@@ -379,3 +474,28 @@ unfolding readText readFrom turn opened featureMade letMade closed
     countOf sameWord find labelsOf keywords
     scanned tokensAfter follow frontOf dots numberRest fraction classOf digitsIn
 stating-refused = refl
+
+-- A test that refuses, by its number and its place, and what passes it.
+pub tested : map (λ t. refusedIf {A = ℕ} t 3 7 (accepted 1)) (true ∷ false ∷ []) ≡ refused 3 7 ∷ accepted 1 ∷ []
+tested = refl
+
+-- One statement alone, behind `LAGTIME(`: "Statements are read to their `)`", and what follows is left. 3 stands at the text's end, 2 at its byte,
+-- and any other refusal where it is.
+abbrev lagtime : String → One
+lagtime s =
+    readOne 64 (length (bytes s)) (argument (featureCall (as-written 0 "LAGTIME") false [])) (tokens (bytes s))
+
+pub alone-checked :
+    map lagtime ("ON)" ∷ "ON);" ∷ "ON" ∷ "ON$" ∷ "NO)" ∷ [])
+    ≡ whole (feature (Lagtime (modes (1 ∷ [])))) finish
+    ∷ whole (feature (Lagtime (modes (1 ∷ [])))) (record { place = 3; shape = separator } ▸ finish)
+    ∷ halted 3 2
+    ∷ halted 2 2
+    ∷ halted 10 0
+    ∷ []
+unfolding readOne turn featureMade closed
+    buildFeature featureOf keywordOf
+    placeOf modeList firsts modesOf
+    sameWord find labelsOf keywords
+    scanned tokensAfter follow frontOf dots numberRest fraction classOf digitsIn
+alone-checked = refl

@@ -223,6 +223,40 @@ rules =
     -- "Every other mode `*` becomes its family's whole list; counts stay."
     ∷ ("PERIPHERALS(0..2,*);TRANSITS([0,3]);TRANSITS(N);INDIRECTEFFECT(LINEAR,*)"
     ⟶ comesTo (bytes "PERIPHERALS(0..2,[DRUG,MET]);TRANSITS([0,3]);TRANSITS(N);INDIRECTEFFECT(LINEAR,[PRODUCTION,DEGRADATION])") [] [])
+    ∷ ("ABSORPTION(*);ELIMINATION(*);TRANSITS(1,*);LAGTIME(*)"
+    ⟶ comesTo
+    (bytes "ABSORPTION([INST,FO,ZO,SEQ-ZO-FO,WEIBULL]);ELIMINATION([FO,ZO,MM,MIX-FO-MM]);TRANSITS(1,[DEPOT,NODEPOT]);LAGTIME([OFF,ON])")
+    []
+    [])
+    ∷ ("DIRECTEFFECT(*);EFFECTCOMP(*);INDIRECTEFFECT(*,PRODUCTION);METABOLITE(*)"
+    ⟶ comesTo
+    (bytes
+    "DIRECTEFFECT([LINEAR,EMAX,SIGMOID,STEP,LOGLIN]);EFFECTCOMP([LINEAR,EMAX,SIGMOID,STEP,LOGLIN]);INDIRECTEFFECT([LINEAR,EMAX,SIGMOID,STEP,LOGLIN],PRODUCTION);METABOLITE([BASIC,PSC])")
+    []
+    [])
+    -- .. and the `?` of an IIV, IOV or COVARIANCE stays
+    ∷ ("IIV?(CL,EXP);IOV?(V,*);COVARIANCE?(*,[CL,V])"
+    ⟶ comesTo (bytes "IIV?(CL,EXP);IOV?(V,[EXP,ADD,PROP,LOG,RE_LOG]);COVARIANCE?([IIV,IOV],[CL,V])") [] [])
+    -- "a COVARIATE is explicit when its parameter operand is a list of names": one of `*` is not
+    ∷ ("COVARIATE(*,WT,lin);COVARIATE(CL,WT,exp)"
+    ⟶ comesTo
+    (bytes "COVARIATE(V,WT,lin);COVARIATE(KA,WT,lin);COVARIATE(CL,WT,exp)")
+    (five 1 0 0 0 0 ∷ five 2 0 0 0 0 ∷ five 0 0 2 0 0 ∷ [])
+    [])
+    -- "on the same pair": another covariate, and another parameter, is another pair
+    ∷ ("COVARIATE(@ELIMINATION,SEX,cat);COVARIATE(CL,WT,lin);COVARIATE(V,WT,lin)"
+    ⟶ comesTo
+    (bytes "COVARIATE(CL,SEX,cat);COVARIATE(CL,WT,lin);COVARIATE(V,WT,lin)")
+    (five 0 1 4 0 0 ∷ five 0 0 0 0 0 ∷ five 1 0 0 0 0 ∷ [])
+    [])
+    -- "1, last and once, some merged effect is additive": behind the dropped ones, and not for an effect that lost
+    ∷ ("COVARIATE(CL,WT,lin,+);IIV(@PD,EXP)" ⟶ comesTo (bytes "COVARIATE(CL,WT,lin,+)") (five 0 0 0 1 0 ∷ []) (note 0 1 ∷ note 1 0 ∷ []))
+    ∷ ("COVARIATE(@ELIMINATION,WT,lin,+);COVARIATE(CL,WT,exp)" ⟶ comesTo (bytes "COVARIATE(CL,WT,exp)") (five 0 0 2 0 0 ∷ []) [])
+    -- "Empty .. covariates drop a COVARIATE"
+    ∷ inContext (withBlock (some []) []) "COVARIATE(CL,*,lin)" (comesTo [] [] (note 0 0 ∷ []))
+    -- "Cat and Cat2 suit categorical, the other forms continuous"
+    ∷ ("COVARIATE(CL,@CATEGORICAL,cat2);COVARIATE(CL,@CONTINUOUS,custom)"
+    ⟶ comesTo (bytes "COVARIATE(CL,SEX,cat2);COVARIATE(CL,WT,custom)") (five 0 1 5 0 0 ∷ five 0 0 6 0 0 ∷ []) [])
     -- "An effect of a statement that is not explicit loses to an explicit one on the same pair": before 17 is said, and with no note
     ∷ ("COVARIATE(@ELIMINATION,WT,lin);COVARIATE(CL,WT,exp)" ⟶ comesTo (bytes "COVARIATE(CL,WT,exp)") (five 0 0 2 0 0 ∷ []) [])
     -- "A mandatory pair that remains from two statements is refused", whatever its operator
@@ -262,6 +296,7 @@ faults =
     ∷ inContext kColumns "COVARIATE(CL,@CONTINUOUS,lin)" (refusal 14 0)
     ∷ ("LAGTIME(*);IIV(WT,*);IIV(@NONE,*)" ⟶ refusal 15 1)
     ∷ ("LET(A,WT);COVARIATE(CL,@A,cat)" ⟶ refusal 16 1)
+    ∷ ("COVARIATE(CL,WT,cat2)" ⟶ refusal 16 0)
     ∷ ("COVARIATE(CL,[WT,SEX],lin)" ⟶ refusal 16 0)
     ∷ ("COVARIATE(CL,SEX,custom)" ⟶ refusal 16 0)
     ∷ []
@@ -343,6 +378,8 @@ large =
     ∷ copies 257 eleven
     ∷ (copies 218 seventyFour ++ eleven ∷ eleven ∷ variable "V" ∷ [])
     ∷ (copies 218 seventyFour ++ eleven ∷ eleven ∷ variable "CL" ∷ [])
+    -- 17 comes before 18 for the ground space
+    ∷ (copies 256 eleven ++ effectsOn ("CL" ∷ []) (0 ∷ []) ∷ effectsOn ("CL" ∷ []) (2 ∷ []) ∷ [])
     ∷ []
 
 -- the number and the place of a refusal
@@ -352,7 +389,7 @@ refusalIn (refused n p) = n ∷ p ∷ []
 
 pub limits :
     map (λ ss. refusalIn (resolve (contextIn k) ss)) large
-    ≡ (17 ∷ 1 ∷ []) ∷ (18 ∷ 0 ∷ []) ∷ [] ∷ (18 ∷ 0 ∷ []) ∷ [] ∷ (18 ∷ 0 ∷ []) ∷ []
+    ≡ (17 ∷ 1 ∷ []) ∷ (18 ∷ 0 ∷ []) ∷ [] ∷ (18 ∷ 0 ∷ []) ∷ [] ∷ (18 ∷ 0 ∷ []) ∷ (17 ∷ 257 ∷ []) ∷ []
 unfolding countOf sameWord find labelsOf keywords classOf
     textShapes statementShapes partsOf featureParts digitsOf digitsIn numberRest fraction
     builtin lookUp whole bring merged ground mergeAndGround resolve
