@@ -188,6 +188,8 @@ rules =
     ∷ inContext kCase "IOV(*,EXP)" (refusal 15 0)
     -- "A note is (reason, statement index)": LETs count
     ∷ ("LET(A,CL);COVARIANCE(IIV,@A)" ⟶ comesTo [] [] (note 0 1 ∷ []))
+    -- a COVARIANCE's names are those of the parameters
+    ∷ ("COVARIANCE(IIV,[KA,CL])" ⟶ comesTo (bytes "COVARIANCE(IIV,[KA,CL])") [] [])
     -- "fewer than two a COVARIANCE", after its names are held
     ∷ ("COVARIANCE(IIV,[CL,CL])" ⟶ comesTo [] [] (note 0 0 ∷ []))
     ∷ ("COVARIANCE(IIV,WT)" ⟶ refusal 15 0)
@@ -213,6 +215,11 @@ rules =
     ∷ five 0 0 3 0 1
     ∷ five 0 1 4 0 1
     ∷ [])
+    [])
+    ∷ inContext kColumns "COVARIATE?(CL,SEX,*)"
+    (comesTo
+    (bytes "COVARIATE?(CL,SEX,[lin,piece_lin,exp,pow])")
+    (five 0 1 0 0 1 ∷ five 0 1 1 0 1 ∷ five 0 1 2 0 1 ∷ five 0 1 3 0 1 ∷ [])
     [])
     -- "A covariate's kind is that of its first declared entry"; @CATEGORICAL goes by each entry's own
     ∷ inContext kTwice "COVARIATE?(CL,@CATEGORICAL,*)"
@@ -249,6 +256,10 @@ rules =
     (bytes "COVARIATE(CL,SEX,cat);COVARIATE(CL,WT,lin);COVARIATE(V,WT,lin)")
     (five 0 1 4 0 0 ∷ five 0 0 0 0 0 ∷ five 1 0 0 0 0 ∷ [])
     [])
+    -- one of an explicit statement's pairs is enough, and a LET or what is dropped has none
+    ∷ ("COVARIATE(@ELIMINATION,WT,lin);COVARIATE([CL,V],WT,exp)"
+    ⟶ comesTo (bytes "COVARIATE(CL,WT,exp);COVARIATE(V,WT,exp)") (five 0 0 2 0 0 ∷ five 1 0 2 0 0 ∷ []) [])
+    ∷ ("LET(A,CL);IIV(@PD,EXP);COVARIATE(@A,WT,lin)" ⟶ comesTo (bytes "COVARIATE(CL,WT,lin)") (five 0 0 0 0 0 ∷ []) (note 0 1 ∷ []))
     -- "1, last and once, some merged effect is additive": behind the dropped ones, and not for an effect that lost
     ∷ ("COVARIATE(CL,WT,lin,+);IIV(@PD,EXP)" ⟶ comesTo (bytes "COVARIATE(CL,WT,lin,+)") (five 0 0 0 1 0 ∷ []) (note 0 1 ∷ note 1 0 ∷ []))
     ∷ ("COVARIATE(@ELIMINATION,WT,lin,+);COVARIATE(CL,WT,exp)" ⟶ comesTo (bytes "COVARIATE(CL,WT,exp)") (five 0 0 2 0 0 ∷ []) [])
@@ -285,6 +296,7 @@ faults =
     ∷ inContext (withBlock (some (covariate (pair 17 0) 1 ∷ [])) []) "" (refusal 12 0)
     ∷ inContext (withBlock (some kBlock) (pair 17 3 ∷ pair 15 2 ∷ [])) "" (refusal 12 0)
     ∷ inContext (withBlock (some kBlock) (pair 15 2 ∷ pair 16 2 ∷ [])) "" (refusal 12 0)
+    ∷ inContext (kOf kParameters (pair 2 1 ∷ pair 0 2 ∷ []) (some kTemplate) (some kBlock) []) "" (refusal 12 0)
     ∷ inContext (withTemplate (some (binding (pair 7 2) (pair 5 2) ∷ []))) "" (refusal 12 0)
     ∷ inContext (withMarks false true) "" (refusal 12 0)
     ∷ inContext (withMarks true false) "" (refusal 12 0)
@@ -298,6 +310,7 @@ faults =
     ∷ ("LET(A,WT);COVARIATE(CL,@A,cat)" ⟶ refusal 16 1)
     ∷ ("COVARIATE(CL,WT,cat2)" ⟶ refusal 16 0)
     ∷ ("COVARIATE(CL,[WT,SEX],lin)" ⟶ refusal 16 0)
+    ∷ ("COVARIATE(CL,WT,[lin,cat])" ⟶ refusal 16 0)
     ∷ ("COVARIATE(CL,SEX,custom)" ⟶ refusal 16 0)
     ∷ []
 

@@ -11,7 +11,7 @@ use Rattle.text.specs.Bytes.{bytes}
 use Rattle.labels.specs.Word.{sameWord}
 use Rattle.reading.specs.Statement.{Operand, names, modes, multiply, Covariate, feature}
 use Rattle.reading.specs.Answer.{Answer, accepted, refused}
-use Rattle.resolving.specs.Context.{Context, Binding, Declared, CovariateKind, continuous, categorical}
+use Rattle.resolving.specs.Context.{Context, Binding, Declared, CovariateKind, continuous, categorical, kindNumber}
 use Rattle.resolving.specs.Builtins.{builtin}
 use Rattle.resolving.specs.Operands.{known, entered}
 use Rattle.resolving.specs.Brought.{plainName, bring}
@@ -86,3 +86,11 @@ called w = names (plainName (bytes w) ∷ [])
 pub wrong-kind : bring roomy (builtin roomy) (feature (Covariate false (called "cl") (called "SEX") (modes (0 ∷ [])) multiply)) ≡ refused 16 0
 unfolding bring
 wrong-kind = refl
+
+-- A name of the ground text stands at no place of the text that was read.
+pub no-place : plainName (bytes "CL") ≡ record { place = 0; spelling = bytes "CL" }
+no-place = refl
+
+-- "a kind, 0 continuous or 1 categorical"
+pub kinds-checked : map kindNumber (continuous ∷ categorical ∷ []) ≡ 0 ∷ 1 ∷ []
+kinds-checked = refl
