@@ -1,5 +1,6 @@
 // The names of a context as it is handed to Resolve, a block of bytes and a run of numbers, for messages and for lines of effects. What the run
 // does not have is 0 or nothing, so that any context may be asked, one that is refused too.
+use resolve_context::Kind;
 use show_pages::pages;
 
 // The lists of a context, in the order of the run.
@@ -114,9 +115,13 @@ pub fn variable_at(lists: &[u32], index: usize) -> Pair {
     }
 }
 
-// The kind of a declared covariate, 0 continuous or 1 categorical.
-pub fn kind_at(lists: &[u32], index: usize) -> usize {
-    number_at(lists, sum(entry_at(lists, DECLARED, index), 2))
+// The kind of a declared covariate.
+pub fn kind_at(lists: &[u32], index: usize) -> Kind {
+    let at = sum(entry_at(lists, DECLARED, index), 2);
+    if at < lists.len() {
+        return resolve_context::kind_of(lists[at]);
+    }
+    Kind::Continuous
 }
 
 pub fn end_of(pair: Pair) -> usize {

@@ -2,6 +2,7 @@
 use crate::context_file;
 use crate::rows;
 use crate::rows::Row;
+use resolve_context::Kind;
 use show_pages::pages;
 
 // How many bytes and numbers were taken, and how many entries of the last list; and what is wrong, if anything, and where.
@@ -124,15 +125,20 @@ fn take_binding(
     take_name(file, mark + 1, to, block, run, role)
 }
 
-// The kind of a covariate, or 2.
-fn kind_of(file: &[u8], from: usize, to: usize) -> usize {
+// What the word of a kind says.
+enum KindWord {
+    Known(Kind),
+    Unknown,
+}
+
+fn kind_of(file: &[u8], from: usize, to: usize) -> KindWord {
     if rows::is_word(file, from, to, b"continuous") {
-        return 0;
+        return KindWord::Known(Kind::Continuous);
     }
     if rows::is_word(file, from, to, b"categorical") {
-        return 1;
+        return KindWord::Known(Kind::Categorical);
     }
-    2
+    KindWord::Unknown
 }
 
 // `NAME:continuous` or `NAME:categorical`.
@@ -148,15 +154,14 @@ fn take_covariate(
     if to <= mark {
         return wrong(context_file::NO_KIND, from);
     }
-    let kind = kind_of(file, mark + 1, to);
-    if 1 < kind {
+    let KindWord::Known(kind) = kind_of(file, mark + 1, to) else {
         return wrong(context_file::UNKNOWN_KIND, mark + 1);
-    }
+    };
     let name = take_name(file, from, mark, block, run, taken);
     if name.cause != context_file::FINE {
         return name;
     }
-    take_number(run, name, kind, from)
+    take_number(run, name, resolve_context::number_of(kind) as usize, from)
 }
 
 fn take_entry(

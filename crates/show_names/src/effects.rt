@@ -1,6 +1,7 @@
 // The effects of a COVARIATE that do not suit the kind of a covariate.
 use labels::Family;
 use labels::Found;
+use resolve_context::Kind;
 use show_texts::scenes;
 use tokens::Token;
 
@@ -21,23 +22,17 @@ pub fn effect_of(text: &[u8], token: Token) -> usize {
     }
 }
 
-// Whether an effect suits a kind: cat and cat2 are for categorical covariates, all others for continuous ones.
-fn suits(effect: usize, kind: usize) -> bool {
-    let categorical = (effect == 4) | (effect == 5);
-    categorical == (kind == 1)
-}
-
 // Whether a token is an effect that does not suit a kind.
-fn is_against(text: &[u8], token: Token, kind: usize) -> bool {
+fn is_against(text: &[u8], token: Token, kind: Kind) -> bool {
     let effect = effect_of(text, token);
     if 6 < effect {
         return false;
     }
-    !suits(effect, kind)
+    !resolve_context::suits(kind, effect as u32)
 }
 
 // The offset of the first effect, from one offset to another, that does not suit a kind; or the latter.
-pub fn first_against(text: &[u8], from: usize, to: usize, kind: usize) -> usize {
+pub fn first_against(text: &[u8], from: usize, to: usize, kind: Kind) -> usize {
     let mut at = from;
     while at < to {
         let token = scenes::token_at(text, at);

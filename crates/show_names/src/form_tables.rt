@@ -1,8 +1,10 @@
 // The forms of a COVARIATE's effects for each of its covariates: how many effects that makes, and what goes into the tables of pairs.
 use crate::effects;
+use crate::pair_forms;
 use crate::pair_tables;
 use crate::pair_tables::Terms;
 use crate::pair_tables::byte_at;
+use resolve_context::Kind;
 use show_contexts::context_names;
 use show_texts::scenes;
 
@@ -31,31 +33,25 @@ pub fn fill_forms(forms: &mut [u8], text: &[u8], start: usize) {
     }
 }
 
-// How many of the seven forms are marked.
-fn marked(forms: &[u8]) -> usize {
-    let mut n = 0;
-    let mut form = 0;
-    while form < 7 {
-        n = sum(n, wide(byte_at(forms, form)));
-        form += 1;
-    }
-    n
-}
-
 // The kind of a covariate, as far as `*` goes by it.
-fn kind_of(lists: &[u32], covariate: u8) -> usize {
+fn kind_of(lists: &[u32], covariate: u8) -> Kind {
     if context_names::has_block(lists) {
         return context_names::kind_at(lists, wide(covariate));
     }
-    0
+    Kind::Continuous
 }
 
-// How many effects a parameter has with a covariate.
-fn forms_for(forms: &[u8], star: bool, kind: usize) -> usize {
-    if !star {
-        return marked(forms);
+// How many effects a parameter has with a covariate, of the seven forms.
+fn forms_for(forms: &[u8], star: bool, kind: Kind) -> usize {
+    let mut n = 0;
+    let mut form = 0;
+    while form < 7 {
+        if pair_forms::has_form(forms, star, kind, form) {
+            n = sum(n, 1);
+        }
+        form += 1;
     }
-    if kind == 1 { 1 } else { 4 }
+    n
 }
 
 // How many effects a parameter has with all covariates.

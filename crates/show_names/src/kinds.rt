@@ -1,28 +1,31 @@
 // An effect that does not suit the kind of its covariate.
 use crate::effects;
 use labels::Family;
+use resolve_context::Kind;
 use show_contexts::context_names;
 use show_pages::pages;
 use show_pages::places;
 use show_texts::accepted;
 use show_texts::scenes;
 
-// The effects that suit a kind.
-fn put_suiting(page: &mut [u8], len: usize, kind: usize) -> usize {
-    if kind == 1 {
-        let a = put_effect(page, len, 4, 0);
-        return put_effect(page, a, 5, 1);
+// An effect where it suits a kind, behind those that stand from an index on.
+fn put_if_suiting(page: &mut [u8], from: usize, len: usize, kind: Kind, effect: u32) -> usize {
+    if !resolve_context::suits(kind, effect) {
+        return len;
     }
-    let a = put_effect(page, len, 0, 0);
-    let b = put_effect(page, a, 1, 1);
-    let c = put_effect(page, b, 2, 1);
-    let d = put_effect(page, c, 3, 1);
-    put_effect(page, d, 6, 1)
+    let n = pages::put_either(page, len, from < len, b", ", b"");
+    accepted::put_label(page, n, Family::CovariateEffect, effect as usize)
 }
 
-fn put_effect(page: &mut [u8], len: usize, effect: usize, before: usize) -> usize {
-    let n = pages::put_joint(page, len, before, b", ");
-    accepted::put_label(page, n, Family::CovariateEffect, effect)
+// The effects that suit a kind.
+fn put_suiting(page: &mut [u8], len: usize, kind: Kind) -> usize {
+    let mut n = len;
+    let mut effect = 0;
+    while effect < 7 {
+        n = put_if_suiting(page, len, n, kind, effect);
+        effect += 1;
+    }
+    n
 }
 
 // The covariate, its kind, the effect, and what would suit.
@@ -41,16 +44,13 @@ fn put_both(
     let b = pages::put_quoted(page, a, text, token.start, after.at);
     let c = pages::put_all(page, b, b" does not suit the covariate ");
     let d = context_names::put_name(page, c, block, lists, context_names::DECLARED, entry);
-    pages::put_either(
-        page,
-        d,
-        context_names::kind_at(lists, entry) == 1,
-        b", which is categorical\n",
-        b", which is continuous\n",
-    )
+    match context_names::kind_at(lists, entry) {
+        Kind::Continuous => pages::put_all(page, d, b", which is continuous\n"),
+        Kind::Categorical => pages::put_all(page, d, b", which is categorical\n"),
+    }
 }
 
-fn put_accepted(page: &mut [u8], len: usize, kind: usize) -> usize {
+fn put_accepted(page: &mut [u8], len: usize, kind: Kind) -> usize {
     let a = pages::put_all(page, len, b"  accepted: ");
     let b = put_suiting(page, a, kind);
     pages::put(page, b, b'\n')

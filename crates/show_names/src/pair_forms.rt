@@ -4,17 +4,27 @@ use crate::pair_tables::byte_at;
 use crate::pair_tables::is_lost;
 use crate::pair_tables::mark;
 use crate::pair_tables::pair_of;
+use resolve_context::Kind;
 ghost use Prim.Native.Nat.{_<_};
 
-// Whether a form is among a COVARIATE's for a covariate of a kind: `*` is cat for a categorical one, else the first four.
-fn has_form(forms: &[u8], star: bool, kind: usize, form: usize) -> bool {
-    if !star {
-        return byte_at(forms, form) == 1;
+// Whether a form is among those that are packed in a number.
+fn is_packed(packed: u32, form: usize) -> bool {
+    let mut left = packed;
+    while left != 0 {
+        if (left % 16) as usize == form % 8 + 1 {
+            return true;
+        }
+        left /= 16;
     }
-    if kind == 1 {
-        return form == 4;
+    false
+}
+
+// Whether a form is among a COVARIATE's for a covariate of a kind.
+pub fn has_form(forms: &[u8], star: bool, kind: Kind, form: usize) -> bool {
+    if star {
+        return is_packed(resolve_context::every_form(kind), form);
     }
-    form < 4
+    byte_at(forms, form) == 1
 }
 
 fn bit(mark: bool) -> usize
@@ -38,7 +48,7 @@ fn group_place(pair: usize, additive: bool, optional: bool) -> usize
 }
 
 // Marks a form that a pair is forced to have.
-fn force_form(forced: &mut [u8], forms: &[u8], kind: usize, terms: Terms, pair: usize, form: usize)
+fn force_form(forced: &mut [u8], forms: &[u8], kind: Kind, terms: Terms, pair: usize, form: usize)
     requires { ⌜ pair < 4096 ⌝ }
 {
     if has_form(forms, terms.star, kind, form) {
@@ -47,7 +57,7 @@ fn force_form(forced: &mut [u8], forms: &[u8], kind: usize, terms: Terms, pair: 
 }
 
 // Marks the forms that a pair is forced to have.
-fn force_pair(forced: &mut [u8], won: &[u8], forms: &[u8], kind: usize, terms: Terms, pair: usize)
+fn force_pair(forced: &mut [u8], won: &[u8], forms: &[u8], kind: Kind, terms: Terms, pair: usize)
     requires { ⌜ pair < 4096 ⌝ }
 {
     if is_lost(won, terms.explicit, pair) {
@@ -61,7 +71,7 @@ fn force_pair(forced: &mut [u8], won: &[u8], forms: &[u8], kind: usize, terms: T
 }
 
 // Whether a form of a pair remains: an optional one that is forced too goes.
-fn remains(forced: &[u8], forms: &[u8], kind: usize, terms: Terms, pair: usize) -> bool
+fn remains(forced: &[u8], forms: &[u8], kind: Kind, terms: Terms, pair: usize) -> bool
     requires { ⌜ pair < 4096 ⌝ }
 {
     let mut form = 0;
@@ -85,7 +95,7 @@ fn group_pair(
     forced: &[u8],
     won: &[u8],
     forms: &[u8],
-    kind: usize,
+    kind: Kind,
     terms: Terms,
     pair: usize,
 ) -> usize
@@ -107,7 +117,7 @@ pub fn put_forced(
     parameters: &[u8],
     covariate: u8,
     forms: &[u8],
-    kind: usize,
+    kind: Kind,
     terms: Terms,
 ) {
     let mut i = 0;
@@ -137,7 +147,7 @@ pub fn put_groups(
     parameters: &[u8],
     covariate: u8,
     forms: &[u8],
-    kind: usize,
+    kind: Kind,
     terms: Terms,
 ) -> usize {
     let mut n = 0;
