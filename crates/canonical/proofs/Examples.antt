@@ -7,6 +7,7 @@ use mathlib.Core.Path.{_≡_, refl}
 use mathlib.Core.List.{List, [], _∷_, map}
 use lib.ListN.{length}
 use Rattle.text.specs.Bytes.{bytes}
+use Rattle.tokens.specs.Token.{word, number}
 use Rattle.tokens.specs.Class.{classOf}
 use Rattle.tokens.specs.Lex.{fraction, numberRest, dots, frontOf, follow, tokensAfter}
 use Rattle.tokens.specs.Next.{scanned}
@@ -22,7 +23,7 @@ use Rattle.reading.specs.Syntax.{opened, featureMade, letMade, closed, turn}
 use Rattle.reading.specs.Read.{readFrom, readText}
 use Rattle.reading.specs.Parts.{featureParts, partsOf}
 use Rattle.canonical.specs.Numbers.{numbersOf}
-use Rattle.canonical.specs.Canonical.{statementShapes, textShapes, canonical}
+use Rattle.canonical.specs.Canonical.{nameShape, statementShapes, textShapes, canonical}
 
 -- What becomes of a text: so many statements stand and print as another text, or it is refused by a number at a place.
 pub data Outcome : Type 0 where
@@ -80,6 +81,12 @@ unfolding readText readFrom turn opened featureMade letMade closed
     scanned tokensAfter follow frontOf dots numberRest fraction classOf
     textShapes statementShapes partsOf featureParts digitsOf digitsIn
 checked = refl
+
+-- "in a place for names a number stands as written": it is printed as a number, and a word as a word.
+pub named-checked :
+    map (λ w. nameShape (record { place = 3; spelling = bytes w })) ("70.5" ∷ "WT" ∷ []) ≡ number (bytes "70.5") ∷ word (bytes "WT") ∷ []
+unfolding classOf numberRest fraction
+named-checked = refl
 
 -- The numbers of statements, each kind of argument among them.
 

@@ -26,6 +26,10 @@ fives = (9 ∷ 9 ∷ 9 ∷ 9 ∷ 9 ∷ []) ∷ (8 ∷ 8 ∷ 8 ∷ 8 ∷ 8 ∷ []
 abbrev twos : List (List ℕ)
 twos = (9 ∷ 9 ∷ []) ∷ (8 ∷ 8 ∷ []) ∷ []
 
+-- "An effect is five numbers", in this order
+pub five-numbers : effectNumbers (five 1 2 3 4 5) ≡ 1 ∷ 2 ∷ 3 ∷ 4 ∷ 5 ∷ []
+five-numbers = refl
+
 pub effects-behind : effectsAfter (accepted answered) fives ≡ (2 ∷ 0 ∷ 1 ∷ 0 ∷ 1 ∷ []) ∷ (0 ∷ 1 ∷ 4 ∷ 1 ∷ 0 ∷ []) ∷ (7 ∷ 7 ∷ 7 ∷ 7 ∷ 7 ∷ []) ∷ []
 effects-behind = refl
 
