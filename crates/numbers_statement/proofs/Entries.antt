@@ -14,7 +14,7 @@ use Rattle.read_forms.specs.Fits.{Listed}
 use Rattle.read_forms.proofs.Entries.{entries-next, listed-next, entries-length}
 use Rattle.read_forms.proofs.Lists.{items-are}
 use Rattle.read_checks.specs.declared.Entry as checked
-use Rattle.read_checks.specs.Answers.{entryIn, NextEntry}
+use Rattle.read_checks.specs.Answers.{entryIn, NextEntry, goesOn}
 use Rattle.print_writing.specs.Written.{Written}
 use Rattle.print_writing.proofs.Going.{Going, told, further, no-more}
 use Rattle.numbers_statement.specs.declared.Entry.{Entry}
@@ -55,7 +55,7 @@ module _ {e : Entry} {s before : List ℕ} {at : ℕ} {all now : List ℕ} {next
   -- there is an entry, and the others are read from its cursor
   module _ (k : 0 < n) {i : checked.Entry} (h : NextEntry s o i) where
     abbrev others : List ℕ
-    others = entriesNumbers e (entries (n - 1) (tokensFrom s (i .next .at)))
+    others = entriesNumbers e (entries (n - 1) (tokensFrom s (goesOn s i)))
 
     at-entry : Going before at all now next (entryNumbers e (entryIn s i) ++ others)
     at-entry = told (ap (entriesNumbers e) (entries-next k (h .here))) (g .under-way)
@@ -64,5 +64,5 @@ module _ {e : Entry} {s before : List ℕ} {at : ℕ} {all now : List ℕ} {next
     entry-ready r = ready-first (entryNumbers e (entryIn s i)) others r at-entry
 
     pub entry-put :
-        {now' : List ℕ} {next' : ℕ} → Written now next (entryNumbers e (entryIn s i)) now' next' → Left e s before at all now' next' (n - 1) (i .next .at)
+        {now' : List ℕ} {next' : ℕ} → Written now next (entryNumbers e (entryIn s i)) now' next' → Left e s before at all now' next' (n - 1) (goesOn s i)
     entry-put w = record { entered = listed-next k (h .here) (g .entered); under-way = further at-entry w }

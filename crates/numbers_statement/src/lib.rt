@@ -138,9 +138,9 @@ fn put_entries(
     let mut cur = items.first;
     let mut next = at;
     while 0 < left {
-        let here = read_checks::next_entry(text, classes, cur);
+        let here = read_checks::entry_at(text, classes, cur);
         next = put_entry(text, entry, here, out, next);
-        cur = here.next;
+        cur = read_checks::after_entry(text, classes, here);
         left -= 1;
     }
     next

@@ -16,7 +16,7 @@ use Rattle.read_forms.specs.Fits.{Listed}
 use Rattle.read_forms.proofs.Entries.{entries-next, listed-next, entries-length}
 use Rattle.read_forms.proofs.Lists.{items-are}
 use Rattle.read_checks.specs.declared.Entry as checked
-use Rattle.read_checks.specs.Answers.{NextEntry}
+use Rattle.read_checks.specs.Answers.{NextEntry, goesOn}
 use Rattle.print_parts.specs.declared.Entry.{Entry}
 use Rattle.print_parts.specs.Parts.{shapeAs, shapesAs, behindEntry}
 use Rattle.print_writing.specs.Written.{Room, Written}
@@ -57,7 +57,7 @@ module _ {e : Entry} {s before : List ℕ} {at : ℕ} {all now : List ℕ} {next
   -- there is an entry, and the others are read from its cursor
   module _ (k : 0 < n) {i : checked.Entry} (h : NextEntry s o i) where
     abbrev others : Tokens
-    others = tokensFrom s (i .next .at)
+    others = tokensFrom s (goesOn s i)
 
     others-listed : listed (n - 1) others ≡ true
     others-listed = listed-next k (h .here) (g .entered)
@@ -85,5 +85,5 @@ module _ {e : Entry} {s before : List ℕ} {at : ℕ} {all now : List ℕ} {next
       comma-room r = room-first (behindEntry n) (entriesOf e (n - 1) others) r (further at-entry w)
 
       pub entry-put :
-          {now'' : List ℕ} {next'' : ℕ} → Written now' next' (behindEntry n) now'' next'' → Left e s before at all now'' next'' (n - 1) (i .next .at)
+          {now'' : List ℕ} {next'' : ℕ} → Written now' next' (behindEntry n) now'' next'' → Left e s before at all now'' next'' (n - 1) (goesOn s i)
       entry-put v = record { entered = others-listed; under-way = further (further at-entry w) v }

@@ -80,10 +80,10 @@ fn put_entries(
     let mut cur = items.first;
     let mut next = at;
     while 0 < left {
-        let here = read_checks::next_entry(text, classes, cur);
+        let here = read_checks::entry_at(text, classes, cur);
         next = put_entry(text, entry, here.name, out, next);
         next = put_comma(out, next, left);
-        cur = here.next;
+        cur = read_checks::after_entry(text, classes, here);
         left -= 1;
     }
     next

@@ -1,6 +1,6 @@
 -- The entries of a list that stays in the text: what the token at an offset is as an entry, and what is left behind it.
 -- Assumes nothing.
-use mathlib.Core.Path.{_≡_, refl, _∙_, ap, sym, subst}
+use mathlib.Core.Path.{_≡_, refl, _∙_, ap, sym}
 use mathlib.Core.Bool.{true, false≢true}
 use mathlib.Core.List.{List, [], _∷_}
 use Prim.Native.Nat.{ℕ, _-_, _≤_}
@@ -19,7 +19,7 @@ use Rattle.read_forms.specs.Fits.{Listed}
 use Rattle.read_forms.proofs.Entries.{entries-length}
 use Rattle.read_forms.proofs.Lists.{items-are}
 use Rattle.read_checks.specs.declared.Entry as checked
-use Rattle.read_checks.specs.Answers.{kindOf, entryIn, NextEntry}
+use Rattle.read_checks.specs.Answers.{kindOf, entryIn, goesOn, NextEntry}
 
 -- a list that has entries is not empty
 pub listed-some : (s : List ℕ) (is : Items) → Listed s is → (is .count ≡ 0 → ⊥) → itemsIn s is ≡ [] → ⊥
@@ -43,38 +43,39 @@ further s o (lexed.Mark m a c) h r = omega (arith, r .0 .ahead, r .0 .wide)
 further s o (lexed.Bad e) h r = r .2
 further s o lexed.End h r = h
 
--- the token at an offset as an entry of a list, and the token behind it, which is passed
-abbrev pub entryBy : kinds.Token → kinds.Token → checked.Entry
-entryBy t u = record { kind = kindOf (t .kind); name = record { offset = t .start; length = t .next .at - t .start }; next = u .next }
+-- the token at an offset as an entry of a list
+abbrev pub entryBy : kinds.Token → checked.Entry
+entryBy t = record { kind = kindOf (t .kind); name = record { offset = t .start; length = t .next .at - t .start }; next = t .next }
 
--- it ends behind its start, and is what `next_entry` says it is
-pub record Next (s : List ℕ) (o : ℕ) (t u : kinds.Token) : Type 0 where
+-- it ends behind its start, and is what `entry_at` says it is
+pub record Next (s : List ℕ) (o : ℕ) (t : kinds.Token) : Type 0 where
   pub wide : t .start ≤ t .next .at
-  pub entry : NextEntry s o (entryBy t u)
+  pub entry : NextEntry s o (entryBy t)
 
-module _ (s : List ℕ) (o : ℕ) (t u : kinds.Token) (q : u ≡ tokenAt s (t .next .at)) where
+module _ (s : List ℕ) (o : ℕ) (t : kinds.Token) where
   next-by :
       {x : Shape}
-      → ((ts : Tokens) → entryAs (t .start) x ts ≡ anEntry (entryIn s (entryBy t u)) ts)
+      → ((ts : Tokens) → entryAs (t .start) x ts ≡ anEntry (entryIn s (entryBy t)) ts)
       → Reads s o (token (t .start) x) (t .next .at)
-      → Next s o t u
-  unfolding entryAhead
+      → Next s o t
+  unfolding entryAhead goesOn
   next-by f r =
       let n = t .next .at in
-      let m : n ≤ u .next .at = subst (λ (v : kinds.Token). n ≤ v .next .at) (sym q) (further s n (first (tokensFrom s n)) (r .within) (told s n _ refl)) in
+      let u = tokenAt s n in
+      let m : n ≤ u .next .at = further s n (first (tokensFrom s n)) (r .within) (told s n _ refl) in
       record {
         wide = omega (arith, r .wide);
         entry = record {
           inside = omega (arith, r .wide, r .within);
           here = record {
-            ahead = ap entryAhead (r .tokens) ∙ f (rest (tokensFrom s n)) ∙ ap (anEntry (entryIn s (entryBy t u))) (behind s n u (known s n u q));
+            ahead = ap entryAhead (r .tokens) ∙ f (rest (tokensFrom s n)) ∙ ap (anEntry (entryIn s (entryBy t))) (behind s n u (known s n u refl));
           };
           ahead = r .ahead;
           behind = omega (arith, r .wide, m);
         };
       }
 
-  pub next-here : listed 1 (tokensFrom s o) ≡ true → Known s o t → Next s o t u
+  pub next-here : listed 1 (tokensFrom s o) ≡ true → Known s o t → Next s o t
   unfolding listed entryAhead
   next-here h (aWord e r) = next-by (λ ts. simp e) r
   next-here h (aNumber e r) = next-by (λ ts. simp e) r
@@ -90,5 +91,4 @@ pub record EntryFrom (s : List ℕ) (o : ℕ) : Type 0 where
 pub entry-from : (s : List ℕ) (o : ℕ) → listed 1 (tokensFrom s o) ≡ true → EntryFrom s o
 entry-from s o h =
     let t = tokenAt s o in
-    let u = tokenAt s (t .next .at) in
-    record { found = entryBy t u; next = next-here s o t u refl h (known s o t refl) .entry }
+    record { found = entryBy t; next = next-here s o t h (known s o t refl) .entry }

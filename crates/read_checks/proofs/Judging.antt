@@ -22,7 +22,7 @@ use Rattle.read_forms.proofs.Entries.{entries-next, listed-next}
 use Rattle.read_checks.specs.declared.Checked.{Checked}
 use Rattle.read_checks.specs.declared.Checked.the-variants.{Fine, Refused}
 use Rattle.read_checks.specs.declared.Entry as checked
-use Rattle.read_checks.specs.Answers.{checkedAs, refusedBy, ofWord, entryIn, NextEntry}
+use Rattle.read_checks.specs.Answers.{checkedAs, refusedBy, ofWord, entryIn, NextEntry, goesOn}
 
 -- a list, judged by `j`, is in order with the values `v`, or is refused
 abbrev pub Judged : (List Item → Answer (List ℕ)) → (List Item → List ℕ) → List Item → Checked → Type 0
@@ -47,15 +47,15 @@ module _ {j : List Item → Answer (List ℕ)} {v : List Item → List ℕ} {s :
         → ((is : List Item) → j (entryIn s i ∷ is) ≡ refusedBy r)
         → Judged j v (entries n₀ (tokensFrom s o₀)) (Refused r)
     unfolding checkedAs
-    left-refused r f = l .whole (Refused r) (ap j (entries-next k (h .here)) ∙ f (entries (n - 1) (tokensFrom s (i .next .at))))
+    left-refused r f = l .whole (Refused r) (ap j (entries-next k (h .here)) ∙ f (entries (n - 1) (tokensFrom s (goesOn s i))))
 
     -- that is in order
     pub left-next :
-        ((is : List Item) (r : Checked) → Judged j v is r → Judged j v (entryIn s i ∷ is) r) → Left j v s n₀ o₀ (n - 1) (i .next .at)
+        ((is : List Item) (r : Checked) → Judged j v is r → Judged j v (entryIn s i ∷ is) r) → Left j v s n₀ o₀ (n - 1) (goesOn s i)
     left-next f =
         record {
           entered = listed-next k (h .here) (l .entered);
-          whole = λ r g. l .whole r (rw (entries-next k (h .here)) (f (entries (n - 1) (tokensFrom s (i .next .at))) r g));
+          whole = λ r g. l .whole r (rw (entries-next k (h .here)) (f (entries (n - 1) (tokensFrom s (goesOn s i))) r g));
         }
 
 -- one value more in front of those of an answer

@@ -26,7 +26,7 @@ use Rattle.read_packs.proofs.Few.{firsts-more, few}
 use Rattle.read_forms.specs.Items.{tokensFrom, nameIn, entries, listed}
 use Rattle.read_forms.proofs.Entries.{entries-next, listed-next}
 use Rattle.read_checks.specs.declared.Entry as checked
-use Rattle.read_checks.specs.Answers.{NextEntry, modesListed}
+use Rattle.read_checks.specs.Answers.{NextEntry, goesOn, modesListed}
 
 pub found-within : (f : Family) (w : List ℕ) (m : ℕ) → find w (labelsOf f) ≡ some m → m < length (labelsOf f)
 found-within f w m e = found-at w (labelsOf f) m e .within
@@ -87,7 +87,7 @@ module _ {f : Family} {s : List ℕ} {n₀ o₀ n o packed : ℕ} (l : Sofar f s
 
     -- that is one
     pub sofar-next :
-        (m r : ℕ) → find (nameIn s (i .name) .spelling) (labelsOf f) ≡ some m → Joined packed m r → Sofar f s n₀ o₀ (n - 1) (i .next .at) r
+        (m r : ℕ) → find (nameIn s (i .name) .spelling) (labelsOf f) ≡ some m → Joined packed m r → Sofar f s n₀ o₀ (n - 1) (goesOn s i) r
     unfolding modeList
     sofar-next m r e j =
         let w = found-within f (nameIn s (i .name) .spelling) m e in
@@ -97,5 +97,5 @@ module _ {f : Family} {s : List ℕ} {n₀ o₀ n o packed : ℕ} (l : Sofar f s
           own = j .all ∙ rw (l .own) (sym (firsts-more (l .done) m));
           within = all-more f m (l .done) (lt-ltb m (length (labelsOf f)) w) (l .within);
           snug = j .snug;
-          whole = rw (l .whole, entries-next k (h .here), e) (one-done m (l .done) (modeList f (entries (n - 1) (tokensFrom s (i .next .at)))));
+          whole = rw (l .whole, entries-next k (h .here), e) (one-done m (l .done) (modeList f (entries (n - 1) (tokensFrom s (goesOn s i)))));
         }

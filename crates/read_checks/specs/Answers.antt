@@ -4,6 +4,7 @@ use mathlib.Core.Bool.{Bool, true, false, cond}
 use mathlib.Core.List.{List, [], _∷_}
 use mathlib.Core.Path.{_≡_}
 use lib.Dec.{eqb}
+use Rattle.tokens.specs.Next.{tokenAt}
 use Rattle.labels.specs.declared.Family.{Family}
 use Rattle.reading.specs.Statement.{Name, Item}
 use Rattle.reading.specs.Statement as statement
@@ -79,10 +80,14 @@ ofWord kind.Number = false
 abbrev pub entryIn : List ℕ → declared.Entry.Entry → Item
 entryIn s r = record { kind = kindAs (r .kind); name = nameIn s (r .name) }
 
--- The entry of a list that stands at an offset or after it: its name lies in the text, and what is left of the list is read from its cursor, which
--- stands behind the name.
+-- where the entry behind an entry is read from: behind the token that follows it, which is a `,` or stands at the list's end
+unfoldable pub goesOn : List ℕ → declared.Entry.Entry → ℕ
+goesOn s r = tokenAt s (r .next .at) .next .at
+
+-- The entry of a list that stands at an offset or after it: its name lies in the text, and what is left of the list is read from behind it and the
+-- token that follows it.
 pub record NextEntry (s : List ℕ) (o : ℕ) (r : declared.Entry.Entry) : Type 0 where
   pub inside : InText s (r .name)
-  pub here : Entered (tokensFrom s o) (entryIn s r) (tokensFrom s (r .next .at))
+  pub here : Entered (tokensFrom s o) (entryIn s r) (tokensFrom s (goesOn s r))
   pub ahead : o ≤ r .name .offset
-  pub behind : r .name .offset + r .name .length ≤ r .next .at
+  pub behind : r .name .offset + r .name .length ≤ goesOn s r

@@ -18,7 +18,7 @@ ghost use Rattle.reading.specs.Feature.{isN, operatorOf, nameOf};
 ghost use Rattle.read_forms.specs.Items.{tokensFrom, nameIn, itemsIn, listed};
 ghost use Rattle.read_forms.specs.Forms.{argIn, valuesIn};
 ghost use Rattle.read_forms.specs.Fits.{InText, Listed, Stands, Fits};
-ghost use Rattle.read_checks.specs.Answers.{checkedAs, modesAs, countsAs, operandAs, itemsAs, nameAs, opReadAs, NextEntry, kindOf, ofWord, modesListed};
+ghost use Rattle.read_checks.specs.Answers.{checkedAs, modesAs, countsAs, operandAs, itemsAs, nameAs, opReadAs, NextEntry, goesOn, kindOf, ofWord, modesListed};
 use counts::Counted;
 use labels::Family;
 use labels::Found;
@@ -71,7 +71,7 @@ pub enum OpRead {
     Refused(Refusal),
 }
 
-// An entry of a list: what it is, its name, and the cursor from which what follows is read.
+// An entry of a list: what it is, its name, and the cursor behind it.
 pub struct Entry {
     pub kind: Kind,
     pub name: Name,
@@ -97,25 +97,34 @@ fn is_word(kind: Kind) -> bool
     }
 }
 
-// The entry that stands at the cursor, or after the blanks there, with the cursor from which the one behind it is read: behind the `,`, or behind
-// whatever stands at the list's end. No other function that goes over a list knows how many tokens an entry has.
-pub fn next_entry(text: &[u8], classes: &Classes, cur: Cursor) -> Entry
+// The entry that stands at the cursor, or after the blanks there. No other function that goes over a list knows how many tokens an entry has. It
+// and `after_entry` are two, and small, so that the compiler puts both into each loop: one that reads the entry and the `,` stays a call, which
+// costs a tenth of Print on a text of long lists.
+pub fn entry_at(text: &[u8], classes: &Classes, cur: Cursor) -> Entry
     requires { ⌜ (now classes ≡ classTable) × (listed 1 (tokensFrom (now text) (cur .at)) ≡ true) ⌝ }
     ensures { λ r. ⌜ NextEntry (now (text .entry)) (cur .at) r ⌝ }
 {
     let token = cur.token(text, classes);
-    let end = token.next;
+    let next = token.next;
     let name = Name {
         offset: token.start,
-        length: end.at - token.start,
+        length: next.at - token.start,
     };
-    let comma = end.token(text, classes);
-    let next = comma.next;
     Entry {
         kind: kind_of(token.kind),
         name,
         next,
     }
+}
+
+// The cursor from which the entry behind this one is read: behind the `,`, or behind whatever stands at the list's end.
+pub fn after_entry(text: &[u8], classes: &Classes, entry: Entry) -> Cursor
+    requires { ⌜ now classes ≡ classTable ⌝ }
+    ensures { λ r. ⌜ r .at ≡ goesOn (now (text .entry)) entry ⌝ }
+{
+    let end = entry.next;
+    let comma = end.token(text, classes);
+    comma.next
 }
 
 // A name's bytes looked up in a family.
@@ -143,7 +152,7 @@ fn listed_modes(
     let mut cur = items.first;
     let mut packed = 0;
     while 0 < left {
-        let entry = next_entry(text, classes, cur);
+        let entry = entry_at(text, classes, cur);
         let name = entry.name;
         match mode_at(text, labels, family, name) {
             Found::Nothing => {
@@ -154,7 +163,7 @@ fn listed_modes(
             }
             Found::Place(place) => {
                 packed = read_packs::with_place(packed, place as u32);
-                cur = entry.next;
+                cur = after_entry(text, classes, entry);
                 left -= 1;
             }
         }
@@ -237,7 +246,7 @@ fn check_counts(text: &[u8], classes: &Classes, at: usize, items: Items, limit: 
     let mut left = items.count;
     let mut cur = items.first;
     while 0 < left {
-        let entry = next_entry(text, classes, cur);
+        let entry = entry_at(text, classes, cur);
         let kind = entry.kind;
         if is_word(kind) {
             return Checked::Refused(wrong(at));
@@ -251,7 +260,7 @@ fn check_counts(text: &[u8], classes: &Classes, at: usize, items: Items, limit: 
                 });
             }
             Counted::Count(_) => {
-                cur = entry.next;
+                cur = after_entry(text, classes, entry);
                 left -= 1;
             }
         }

@@ -21,7 +21,7 @@ use Rattle.read_forms.proofs.Entries.{first-listed}
 use Rattle.read_forms.proofs.Lists.{items-are}
 use Rattle.read_forms.specs.Fits.{InText, Listed}
 use Rattle.read_checks.specs.declared.Entry as checked
-use Rattle.read_checks.specs.Answers.{entryIn, NextEntry}
+use Rattle.read_checks.specs.Answers.{entryIn, NextEntry, goesOn}
 use Rattle.read_lists.specs.Lists.{kindFor, itemFor}
 
 pub map-append : {A B : Type 0} (f : A → B) (xs ys : List A) → map f (xs ++ ys) ≡ map f xs ++ map f ys
@@ -86,19 +86,19 @@ pub one-more :
     → i < is .count
     → NextEntry s o r
     → f (entryIn s r) ≡ x
-    → Gone f s is (set xs i x) (i + 1) (r .next .at)
+    → Gone f s is (set xs i x) (i + 1) (goesOn s r)
 one-more {A} f s is xs i o r x l g h t q =
     let T = tokensFrom s (is .first .at) in
     record {
       size = length-set xs i x ∙ g .size;
-      come = come-on s is i o l (g .come) h (r .next .at) (t .here);
+      come = come-on s is i o l (g .come) h (goesOn s r) (t .here);
       filled =
           ap (λ (k : ℕ). take k (set xs i x)) (add-one i)
           ∙ take-suc-set xs i x (omega (arith, g .size, l .few))
           ∙ ap (λ (ns : List A). ns ++ x ∷ []) (g .filled)
           ∙ ap (λ (y : A). map f (entries i T) ++ y ∷ []) (sym q)
           ∙ sym (map-append f (entries i T) (entryIn s r ∷ []))
-          ∙ ap (map f) (sym (entries-on s is i o l (g .come) h (r .next .at) (t .here)));
+          ∙ ap (map f) (sym (entries-on s is i o l (g .come) h (goesOn s r) (t .here)));
     }
 
 -- nothing read yet

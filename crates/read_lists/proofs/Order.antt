@@ -13,6 +13,7 @@ use Rattle.read_forms.specs.Items.{tokensFrom, nameIn, itemIn, entries, listed,
 use Rattle.read_forms.specs.Fits.{Listed}
 use Rattle.read_forms.proofs.Entries.{entries-ahead, listed-ahead, first-listed}
 use Rattle.read_forms.proofs.Lists.{items-are}
+use Rattle.read_checks.specs.Answers.{goesOn}
 use Rattle.read_checks.proofs.Entries.{entry-from}
 use Rattle.read_lists.specs.Lists.{itemFor, itemsFor, inOrder}
 use Rattle.read_lists.proofs.Filling.{own-item, own-length}
@@ -43,10 +44,10 @@ entries-ordered (suc n) s o h =
     let e = f .next in
     let size = own-length s (r .name) (e .inside) in
     let within : r .name .offset + length (nameIn s (r .name) .spelling) ≤ length s = omega (arith, size, e .inside) in
-    let past : r .name .offset + length (nameIn s (r .name) .spelling) ≤ r .next .at = omega (arith, size, e .behind) in
+    let past : r .name .offset + length (nameIn s (r .name) .spelling) ≤ goesOn s r = omega (arith, size, e .behind) in
     subst (Ordered s o) (sym (entries-ahead (e .here) n))
     (next (e .ahead) within (ap (itemIn s) (own-item s r (e .inside)))
-    (earlier past (entries-ordered n s (r .next .at) (sym (listed-ahead (e .here) n) ∙ h))))
+    (earlier past (entries-ordered n s (goesOn s r) (sym (listed-ahead (e .here) n) ∙ h))))
 
 -- What follows for the entries in an array: they are in order within the text, and stand for those of the list.
 pub ordered-within : {s : List ℕ} {o : ℕ} {is : List Item} → Ordered s o is → inOrder (length s) (itemsFor is) ≡ true

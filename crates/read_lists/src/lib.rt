@@ -37,11 +37,11 @@ pub fn items_of(text: &[u8], classes: &Classes, items: Items) -> [Item; 64]
     let mut i = 0;
     let mut cur = items.first;
     while i < items.count {
-        let entry = read_checks::next_entry(text, classes, cur);
+        let entry = read_checks::entry_at(text, classes, cur);
         let kind = entry.kind;
         let name = entry.name;
         all[i] = Item { kind, name };
-        cur = entry.next;
+        cur = read_checks::after_entry(text, classes, entry);
         i += 1;
     }
     all
@@ -73,9 +73,9 @@ pub fn counts_of(text: &[u8], classes: &Classes, items: Items) -> [u32; 64]
     let mut n = 0;
     let mut cur = items.first;
     while n < items.count {
-        let entry = read_checks::next_entry(text, classes, cur);
+        let entry = read_checks::entry_at(text, classes, cur);
         counts[n] = count_or_0(text, entry.name);
-        cur = entry.next;
+        cur = read_checks::after_entry(text, classes, entry);
         n += 1;
     }
     counts

@@ -16,7 +16,7 @@ use Rattle.read_forms.specs.Fits.{Listed}
 use Rattle.read_forms.proofs.Entries.{entries-next, listed-next}
 use Rattle.read_forms.proofs.Lists.{items-are}
 use Rattle.read_checks.specs.declared.Entry.{Entry}
-use Rattle.read_checks.specs.Answers.{entryIn, NextEntry}
+use Rattle.read_checks.specs.Answers.{entryIn, NextEntry, goesOn}
 use Rattle.read_parts.specs.declared.Part.{Part}
 use Rattle.read_parts.specs.declared.Part.the-variants.{Absent, Modes, Counts, N, Operand, Name, Values, Op, Omitted}
 use Rattle.read_parts.proofs.Part.{the-type}
@@ -44,19 +44,19 @@ module _ {s : List ℕ} {n₀ o₀ n o : ℕ} (l : Left s n₀ o₀ n o) where
 
   -- there is an entry, and the others are read from its cursor
   module _ (k : 0 < n) {r : Entry} (h : NextEntry s o r) where
-    told : isHigh (countFor (entryIn s r)) || highAt s (n - 1) (r .next .at) ≡ highAt s n₀ o₀
+    told : isHigh (countFor (entryIn s r)) || highAt s (n - 1) (goesOn s r) ≡ highAt s n₀ o₀
     told = sym (ap anyHigh (entries-next k (h .here))) ∙ l .same
 
     -- its count is above 10
     pub left-high : isHigh (countFor (entryIn s r)) ≡ true → true ≡ highAt s n₀ o₀
-    left-high e = sym (ap (λ (t : Bool). t || highAt s (n - 1) (r .next .at)) e) ∙ told
+    left-high e = sym (ap (λ (t : Bool). t || highAt s (n - 1) (goesOn s r)) e) ∙ told
 
     -- it is not
-    pub left-next : isHigh (countFor (entryIn s r)) ≡ false → Left s n₀ o₀ (n - 1) (r .next .at)
+    pub left-next : isHigh (countFor (entryIn s r)) ≡ false → Left s n₀ o₀ (n - 1) (goesOn s r)
     left-next e =
         record {
           entered = listed-next k (h .here) (l .entered);
-          same = sym (ap (λ (t : Bool). t || highAt s (n - 1) (r .next .at)) e) ∙ told;
+          same = sym (ap (λ (t : Bool). t || highAt s (n - 1) (goesOn s r)) e) ∙ told;
         }
 
 -- an argument that is no counts

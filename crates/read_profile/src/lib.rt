@@ -71,11 +71,11 @@ fn any_high(text: &[u8], classes: &Classes, items: Items) -> bool
     let mut left = items.count;
     let mut cur = items.first;
     while 0 < left {
-        let entry = read_checks::next_entry(text, classes, cur);
+        let entry = read_checks::entry_at(text, classes, cur);
         if HIGHEST < read_lists::count_or_0(text, entry.name) {
             return true;
         }
-        cur = entry.next;
+        cur = read_checks::after_entry(text, classes, entry);
         left -= 1;
     }
     false

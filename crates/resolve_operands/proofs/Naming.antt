@@ -15,7 +15,7 @@ use Rattle.read_forms.specs.Fits.{Listed}
 use Rattle.read_forms.proofs.Lists.{items-are}
 use Rattle.read_forms.proofs.Entries.{entries-ahead, first-listed, entries-more}
 use Rattle.read_checks.specs.declared.Entry.{Entry}
-use Rattle.read_checks.specs.Answers.{NextEntry}
+use Rattle.read_checks.specs.Answers.{NextEntry, goesOn}
 use Rattle.read_lists.proofs.Filling.{Come, next-stands, come-on}
 use Rattle.resolve_context.specs.declared.Layout.{Layout}
 use Rattle.resolve_context.specs.Lists.{Stands}
@@ -76,5 +76,5 @@ module _ (s : List ℕ) (is : Items) (i o : ℕ) (f : Listed s is) (h : i < is .
     unfolding entries
     entry-named = sym (ap (λ (ts : Tokens). map (word s is) (entries 1 ts)) g ∙ ap (map (word s is)) (entries-ahead (t .here) 0))
 
-    pub next-read : EntryAt s (Values is) (i + 1) (r .next .at)
-    next-read = come-on s is i o f come h (r .next .at) (t .here) .here
+    pub next-read : EntryAt s (Values is) (i + 1) (goesOn s r)
+    next-read = come-on s is i o f come h (goesOn s r) (t .here) .here

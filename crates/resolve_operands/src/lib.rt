@@ -114,9 +114,9 @@ fn next_name(
 {
     match source {
         Source::Values(items) => {
-            let entry = read_checks::next_entry(text, classes, cur);
+            let entry = read_checks::entry_at(text, classes, cur);
             let name = entry.name;
-            let next = entry.next;
+            let next = read_checks::after_entry(text, classes, entry);
             NextName {
                 named: Named::Text(name),
                 next,

@@ -31,22 +31,23 @@ list a = ap (entriesNumbers (a .args .entry)) (items-are (now (a .args .text)) (
 loop-holds : tie.Need-loop-holds Inv-loop μ-loop
 loop-holds c = record { entered = c .before .before .before .pre .1 .are; under-way = going _ _ _ }
 
-next-entry-requires : tie.Need-next-entry-requires Inv-loop μ-loop
-next-entry-requires c κs = let l = c .before in (l .before .before .before .before .pre .0, first-listed 1 _ _ (l .loop .inv .entered) (c .loop-test .taken))
+entry-at-requires : tie.Need-entry-at-requires Inv-loop μ-loop
+entry-at-requires c κs = let l = c .before in (l .before .before .before .before .pre .0, first-listed 1 _ _ (l .loop .inv .entered) (c .loop-test .taken))
 
 put-entry-requires : tie.Need-put-entry-requires Inv-loop μ-loop
 put-entry-requires c κs =
     let i = c .before in
     let l = i .before .before in
     let a = l .before .before .before .before in
-    (i .next-entry .ensures .inside, entry-ready (l .loop .inv) (i .before .loop-test .taken) (i .next-entry .ensures) (ready-same (list a) (a .pre .2)))
+    (i .entry-at .ensures .inside, entry-ready (l .loop .inv) (i .before .loop-test .taken) (i .entry-at .ensures) (ready-same (list a) (a .pre .2)))
 
 loop-again : tie.Need-loop-again Inv-loop μ-loop
 loop-again c =
     let p = c .before .before .before in
     let i = p .before .before in
     let l = i .before .before in
-    entry-put (l .loop .inv) (i .before .loop-test .taken) (i .next-entry .ensures) (p .put-entry .ensures)
+    rw (c .after-entry .ensures)
+    (entry-put (l .loop .inv) (i .before .loop-test .taken) (i .entry-at .ensures) (p .put-entry .ensures))
 
 same-length : tie.Need-same-length Inv-loop μ-loop
 same-length c = as-long (c .before .loop .inv .under-way)
@@ -61,8 +62,9 @@ put-entries-spec =
     Inv-loop
     μ-loop
     loop-holds
-    next-entry-requires
+    entry-at-requires
     put-entry-requires
+    (λ c κs. search needs)
     (λ c. search needs)
     (λ c. search needs)
     loop-again

@@ -31,21 +31,21 @@ room c =
 loop-holds : tie.Need-loop-holds Inv-loop μ-loop
 loop-holds c = record { entered = c .before .before .before .pre .1 .are; under-way = going _ _ _ }
 
-next-entry-requires : tie.Need-next-entry-requires Inv-loop μ-loop
-next-entry-requires c κs = (c .before .before .before .before .before .pre .0, first-listed 1 _ _ (c .before .loop .inv .entered) (c .loop-test .taken))
+entry-at-requires : tie.Need-entry-at-requires Inv-loop μ-loop
+entry-at-requires c κs = (c .before .before .before .before .before .pre .0, first-listed 1 _ _ (c .before .loop .inv .entered) (c .loop-test .taken))
 
 put-entry-requires : tie.Need-put-entry-requires Inv-loop μ-loop
 put-entry-requires c κs =
     let i = c .before in
     let l = i .before .before in
-    (i .next-entry .ensures .inside, entry-room (l .loop .inv) (i .before .loop-test .taken) (i .next-entry .ensures) (room l))
+    (i .entry-at .ensures .inside, entry-room (l .loop .inv) (i .before .loop-test .taken) (i .entry-at .ensures) (room l))
 
 put-comma-requires : tie.Need-put-comma-requires Inv-loop μ-loop
 put-comma-requires c κs =
     let p = c .before .before .before in
     let i = p .before .before in
     let l = i .before .before in
-    comma-room (l .loop .inv) (i .before .loop-test .taken) (i .next-entry .ensures) (p .put-entry .ensures) (room l)
+    comma-room (l .loop .inv) (i .before .loop-test .taken) (i .entry-at .ensures) (p .put-entry .ensures) (room l)
 
 loop-again : tie.Need-loop-again Inv-loop μ-loop
 loop-again c =
@@ -53,7 +53,8 @@ loop-again c =
     let p = q .before .before .before .before in
     let i = p .before .before in
     let l = i .before .before in
-    entry-put (l .loop .inv) (i .before .loop-test .taken) (i .next-entry .ensures) (p .put-entry .ensures) (q .put-comma .ensures)
+    rw (c .after-entry .ensures)
+    (entry-put (l .loop .inv) (i .before .loop-test .taken) (i .entry-at .ensures) (p .put-entry .ensures) (q .put-comma .ensures))
 
 same-length : tie.Need-same-length Inv-loop μ-loop
 same-length c = as-long (c .before .loop .inv .under-way)
@@ -71,9 +72,10 @@ put-entries-spec =
     Inv-loop
     μ-loop
     loop-holds
-    next-entry-requires
+    entry-at-requires
     put-entry-requires
     put-comma-requires
+    (λ c κs. search needs)
     (λ c. search needs)
     (λ c. search needs)
     loop-again

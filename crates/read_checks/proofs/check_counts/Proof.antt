@@ -21,19 +21,19 @@ abbrev μ-loop : tie.MeasureT-loop
 loop-holds : tie.Need-loop-holds Inv-loop μ-loop
 loop-holds c = record { entered = c .before .before .pre .1 .are; whole = λ r e. e }
 
-next-entry-requires : tie.Need-next-entry-requires Inv-loop μ-loop
-next-entry-requires c κs = (c .before .before .before .before .pre .0, first-listed 1 _ _ (c .before .loop .inv .entered) (c .loop-test .taken))
+entry-at-requires : tie.Need-entry-at-requires Inv-loop μ-loop
+entry-at-requires c κs = (c .before .before .before .before .pre .0, first-listed 1 _ _ (c .before .loop .inv .entered) (c .loop-test .taken))
 
 returns : tie.Need-returns Inv-loop μ-loop
 returns c =
     let i = c .before .before .before in
     let a = i .before .before .before .before .before .args in
     rw (items-are _ _ (i .before .before .before .before .before .pre .1), c .wrong .ensures)
-    (left-refused (i .before .before .loop .inv) (i .before .loop-test .taken) (i .next-entry .ensures) _
-    (count-word (a .limit) (a .at) (now (a .text)) (i .next-entry .result) (sym (c .before .before .is-word .ensures) ∙ c .before .if1 .taken)))
+    (left-refused (i .before .before .loop .inv) (i .before .loop-test .taken) (i .entry-at .ensures) _
+    (count-word (a .limit) (a .at) (now (a .text)) (i .entry-at .result) (sym (c .before .before .is-word .ensures) ∙ c .before .if1 .taken)))
 
 count-at-requires : tie.Need-count-at-requires Inv-loop μ-loop
-count-at-requires c κs = c .before .before .before .next-entry .ensures .inside
+count-at-requires c κs = c .before .before .before .entry-at .ensures .inside
 
 returns-2 : tie.Need-returns-2 Inv-loop μ-loop
 returns-2 c =
@@ -41,8 +41,8 @@ returns-2 c =
     let i = m .before .before .before .before in
     let a = i .before .before .before .before .before .args in
     rw (items-are _ _ (i .before .before .before .before .before .pre .1))
-    (left-refused (i .before .before .loop .inv) (i .before .loop-test .taken) (i .next-entry .ensures) _
-    (count-refused (a .limit) (a .at) (now (a .text)) (i .next-entry .result) (sym (m .before .before .before .is-word .ensures) ∙ m .before .before .if1 .left)
+    (left-refused (i .before .before .loop .inv) (i .before .loop-test .taken) (i .entry-at .ensures) _
+    (count-refused (a .limit) (a .at) (now (a .text)) (i .entry-at .result) (sym (m .before .before .before .is-word .ensures) ∙ m .before .before .if1 .left)
     (sym (c .enum-told .given .1) ∙ m .count-at .ensures)))
 
 loop-again : tie.Need-loop-again Inv-loop μ-loop
@@ -50,9 +50,10 @@ loop-again c =
     let m = c .before .before .before in
     let i = m .before .before .before .before in
     let a = i .before .before .before .before .before .args in
-    left-next (i .before .before .loop .inv) (i .before .loop-test .taken) (i .next-entry .ensures)
-    (count-fine (a .limit) (a .at) (now (a .text)) (i .next-entry .result) _ (sym (m .before .before .before .is-word .ensures) ∙ m .before .before .if1 .left)
-    (sym (c .before .enum-told2 .given .1) ∙ m .count-at .ensures))
+    rw (c .after-entry .ensures)
+    (left-next (i .before .before .loop .inv) (i .before .loop-test .taken) (i .entry-at .ensures)
+    (count-fine (a .limit) (a .at) (now (a .text)) (i .entry-at .result) _ (sym (m .before .before .before .is-word .ensures) ∙ m .before .before .if1 .left)
+    (sym (c .before .enum-told2 .given .1) ∙ m .count-at .ensures)))
 
 returns-3 : tie.Need-returns-3 Inv-loop μ-loop
 unfolding countList checkedAs
@@ -65,7 +66,7 @@ check-counts-spec =
     Inv-loop
     μ-loop
     loop-holds
-    next-entry-requires
+    entry-at-requires
     (λ c κs. search needs)
     (λ c κs. search needs)
     returns
@@ -73,6 +74,7 @@ check-counts-spec =
     (λ c. search needs)
     returns-2
     (λ c. search needs)
+    (λ c κs. search needs)
     (λ c. search needs)
     (λ c. search needs)
     loop-again

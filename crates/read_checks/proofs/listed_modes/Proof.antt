@@ -26,11 +26,11 @@ abbrev μ-loop : tie.MeasureT-loop
 loop-holds : tie.Need-loop-holds Inv-loop μ-loop
 loop-holds c = sofar-start _ _ _ _ (c .before .before .pre .2 .are)
 
-next-entry-requires : tie.Need-next-entry-requires Inv-loop μ-loop
-next-entry-requires c κs = (c .before .before .before .before .pre .0, first-listed 1 _ _ (c .before .loop .inv .entered) (c .loop-test .taken))
+entry-at-requires : tie.Need-entry-at-requires Inv-loop μ-loop
+entry-at-requires c κs = (c .before .before .before .before .pre .0, first-listed 1 _ _ (c .before .loop .inv .entered) (c .loop-test .taken))
 
 mode-at-requires : tie.Need-mode-at-requires Inv-loop μ-loop
-mode-at-requires c κs = (c .before .before .before .before .before .before .pre .1, c .before .next-entry .ensures .inside)
+mode-at-requires c κs = (c .before .before .before .before .before .before .pre .1, c .before .entry-at .ensures .inside)
 
 returns : tie.Need-returns Inv-loop μ-loop
 unfolding modesAs
@@ -38,7 +38,7 @@ returns c =
     let m = c .before .before in
     let i = m .before .before in
     rw (items-are _ _ (i .before .before .before .before .before .pre .2))
-    (sofar-refused (i .before .before .loop .inv) (i .before .loop-test .taken) (i .next-entry .ensures)
+    (sofar-refused (i .before .before .loop .inv) (i .before .loop-test .taken) (i .entry-at .ensures)
     (found-none _ (sym (c .enum-told .given .1) ∙ m .mode-at .ensures)))
 
 -- the entry is a mode
@@ -46,7 +46,7 @@ found :
     (c : tie.After-known-told Inv-loop μ-loop)
     → (let i = c .before .before .before .before .before in
     let a = i .before .before .before .before .before .args in
-    find (nameIn (now (a .text)) (i .next-entry .result .name) .spelling) (labelsOf (a .family)) ≡ some (c .before .place .given .0 .0))
+    find (nameIn (now (a .text)) (i .entry-at .result .name) .spelling) (labelsOf (a .family)) ≡ some (c .before .place .given .0 .0))
 found c =
     let k = c .before in
     found-some (find _ _) _ (sym (k .place .given .1) ∙ k .before .before .mode-at .ensures)
@@ -63,8 +63,9 @@ loop-again : tie.Need-loop-again Inv-loop μ-loop
 loop-again c =
     let w = c .before in
     let i = w .before .before .before .before .before .before in
-    sofar-next (i .before .before .loop .inv) (i .before .loop-test .taken) (i .next-entry .ensures) _ (w .with-place .result)
-    (found (w .before)) (w .with-place .ensures)
+    rw (c .after-entry .ensures)
+    (sofar-next (i .before .before .loop .inv) (i .before .loop-test .taken) (i .entry-at .ensures) _ (w .with-place .result)
+    (found (w .before)) (w .with-place .ensures))
 
 returns-2 : tie.Need-returns-2 Inv-loop μ-loop
 unfolding modesAs modesIn
@@ -77,13 +78,14 @@ listed-modes-spec =
     Inv-loop
     μ-loop
     loop-holds
-    next-entry-requires
+    entry-at-requires
     mode-at-requires
     (λ c. search needs)
     returns
     (λ c. search needs)
     cast-with-place
     with-place-requires
+    (λ c κs. search needs)
     (λ c. search needs)
     (λ c. search needs)
     loop-again

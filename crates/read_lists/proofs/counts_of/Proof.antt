@@ -3,6 +3,7 @@ use Prim.Native.Nat.{_-_}
 use mathlib.Core.Path.{sym}
 use native.Mathlib.Omega.{arith}
 use denote.Ref.{now}
+use borrow.Author.Needs.{needs}
 use Rattle.read_forms.specs.Forms.{countFor}
 use Rattle.read_lists.proofs.Filling.{Gone, next-stands, one-more, none-gone, all-gone}
 use Rattle.read_lists.proofs.counts_of.Statement.{statement}
@@ -20,14 +21,14 @@ no-counts-requires c κs = tt
 loop-holds : tie.Need-loop-holds Inv-loop μ-loop
 loop-holds c = none-gone countFor _ _ _ (c .before .no-counts .ensures)
 
-next-entry-requires : tie.Need-next-entry-requires Inv-loop μ-loop
-next-entry-requires c κs =
+entry-at-requires : tie.Need-entry-at-requires Inv-loop μ-loop
+entry-at-requires c κs =
     let l = c .before .before in
     let p = l .before .before .before .before .pre in
     (p .0, next-stands _ _ (l .loop .n) (l .loop .cur .at) (p .1) (l .loop .inv .come) (c .if1 .taken))
 
 count-or-0-requires : tie.Need-count-or-0-requires Inv-loop μ-loop
-count-or-0-requires c κs = c .next-entry .ensures .inside
+count-or-0-requires c κs = c .entry-at .ensures .inside
 
 mul-counts : tie.Need-mul-counts Inv-loop μ-loop
 mul-counts c =
@@ -52,9 +53,10 @@ loop-again c =
     let l = c .before .before .before .before .before in
     let a = l .before .before .before .before .args in
     let i = c .before .before in
-    one-more countFor (now (a .text)) (a .items) _ (l .loop .n) (l .loop .cur .at) (i .next-entry .result) (c .before .count-or-0 .result) (l .before .before .before .before .pre .1)
-    (l .loop .inv) (c .before .before .before .if1 .taken) (i .next-entry .ensures)
-    (sym (c .before .count-or-0 .ensures))
+    rw (c .after-entry .ensures)
+    (one-more countFor (now (a .text)) (a .items) _ (l .loop .n) (l .loop .cur .at) (i .entry-at .result) (c .before .count-or-0 .result) (l .before .before .before .before .pre .1)
+    (l .loop .inv) (c .before .before .before .if1 .taken) (i .entry-at .ensures)
+    (sym (c .before .count-or-0 .ensures)))
 
 returns : tie.Need-returns Inv-loop μ-loop
 returns c =
@@ -69,10 +71,11 @@ counts-of-spec =
     μ-loop
     no-counts-requires
     loop-holds
-    next-entry-requires
+    entry-at-requires
     count-or-0-requires
     mul-counts
     array-write-counts
+    (λ c κs. search needs)
     add-n
     loop-less
     loop-again

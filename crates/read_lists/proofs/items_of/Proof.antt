@@ -2,6 +2,7 @@
 use Prim.Native.Nat.{_-_}
 use native.Mathlib.Omega.{arith}
 use denote.Ref.{now}
+use borrow.Author.Needs.{needs}
 use Rattle.read_lists.specs.Lists.{itemFor}
 use Rattle.read_lists.proofs.Filling.{Gone, next-stands, one-more, none-gone, all-gone, own-item}
 use Rattle.read_lists.proofs.items_of.Statement.{statement}
@@ -19,8 +20,8 @@ no-items-requires c κs = tt
 loop-holds : tie.Need-loop-holds Inv-loop μ-loop
 loop-holds c = none-gone itemFor _ _ _ (c .before .no-items .ensures)
 
-next-entry-requires : tie.Need-next-entry-requires Inv-loop μ-loop
-next-entry-requires c κs =
+entry-at-requires : tie.Need-entry-at-requires Inv-loop μ-loop
+entry-at-requires c κs =
     let l = c .before .before in
     let p = l .before .before .before .before .pre in
     (p .0, next-stands _ _ (l .loop .i) (l .loop .cur .at) (p .1) (l .loop .inv .come) (c .if1 .taken))
@@ -48,9 +49,10 @@ loop-again c =
     let l = c .before .before .before .before .before in
     let a = l .before .before .before .before .args in
     let i = c .before .before in
-    one-more itemFor (now (a .text)) (a .items) _ (l .loop .i) (l .loop .cur .at) (i .next-entry .result) (record { kind = i .next-entry .result .kind; name = i .next-entry .result .name }) (l .before .before .before .before .pre .1)
-    (l .loop .inv) (c .before .before .before .if1 .taken) (i .next-entry .ensures)
-    (own-item (now (a .text)) (i .next-entry .result) (i .next-entry .ensures .inside))
+    rw (c .after-entry .ensures)
+    (one-more itemFor (now (a .text)) (a .items) _ (l .loop .i) (l .loop .cur .at) (i .entry-at .result) (record { kind = i .entry-at .result .kind; name = i .entry-at .result .name }) (l .before .before .before .before .pre .1)
+    (l .loop .inv) (c .before .before .before .if1 .taken) (i .entry-at .ensures)
+    (own-item (now (a .text)) (i .entry-at .result) (i .entry-at .ensures .inside)))
 
 returns : tie.Need-returns Inv-loop μ-loop
 returns c =
@@ -65,9 +67,10 @@ items-of-spec =
     μ-loop
     no-items-requires
     loop-holds
-    next-entry-requires
+    entry-at-requires
     mul-all
     array-set-from-all
+    (λ c κs. search needs)
     add-i
     loop-less
     loop-again

@@ -19,18 +19,18 @@ abbrev μ-loop : tie.MeasureT-loop
 loop-holds : tie.Need-loop-holds Inv-loop μ-loop
 loop-holds c = record { entered = c .before .before .pre .1 .are; same = refl }
 
-next-entry-requires : tie.Need-next-entry-requires Inv-loop μ-loop
-next-entry-requires c κs = (c .before .before .before .before .pre .0, first-listed 1 _ _ (c .before .loop .inv .entered) (c .loop-test .taken))
+entry-at-requires : tie.Need-entry-at-requires Inv-loop μ-loop
+entry-at-requires c κs = (c .before .before .before .before .pre .0, first-listed 1 _ _ (c .before .loop .inv .entered) (c .loop-test .taken))
 
 count-or-0-requires : tie.Need-count-or-0-requires Inv-loop μ-loop
-count-or-0-requires c κs = c .next-entry .ensures .inside
+count-or-0-requires c κs = c .entry-at .ensures .inside
 
 returns : tie.Need-returns Inv-loop μ-loop
 returns c =
     let k = c .before in
     let e = k .before in
     let t = e .before in
-    left-high (t .before .loop .inv) (t .loop-test .taken) (e .next-entry .ensures) (sym (ap isHigh (k .count-or-0 .ensures)) ∙ lt-ltb 10 _ (c .if1 .taken))
+    left-high (t .before .loop .inv) (t .loop-test .taken) (e .entry-at .ensures) (sym (ap isHigh (k .count-or-0 .ensures)) ∙ lt-ltb 10 _ (c .if1 .taken))
     ∙ listed-high _ _ (t .before .before .before .before .pre .1)
 
 loop-again : tie.Need-loop-again Inv-loop μ-loop
@@ -39,8 +39,9 @@ loop-again c =
     let k = f .before in
     let e = k .before in
     let t = e .before in
-    left-next (t .before .loop .inv) (t .loop-test .taken) (e .next-entry .ensures)
-    (sym (ap isHigh (k .count-or-0 .ensures)) ∙ le-ltb 10 _ (f .if1 .left))
+    rw (c .after-entry .ensures)
+    (left-next (t .before .loop .inv) (t .loop-test .taken) (e .entry-at .ensures)
+    (sym (ap isHigh (k .count-or-0 .ensures)) ∙ le-ltb 10 _ (f .if1 .left)))
 
 returns-2 : tie.Need-returns-2 Inv-loop μ-loop
 returns-2 c = left-none (c .before .loop .inv) (omega arith) ∙ listed-high _ _ (c .before .before .before .before .pre .1)
@@ -52,9 +53,10 @@ any-high-spec =
     Inv-loop
     μ-loop
     loop-holds
-    next-entry-requires
+    entry-at-requires
     count-or-0-requires
     returns
+    (λ c κs. search needs)
     (λ c. search needs)
     (λ c. search needs)
     loop-again

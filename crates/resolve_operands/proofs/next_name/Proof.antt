@@ -35,8 +35,8 @@ module _ (c : tie.After-shared-slice-known3) where
       let a = start .args in
       subst (λ (x : Source). NameHere (now (a .text)) (now (a .block)) (now (a .lists)) (a .layout) x (a .index) r) (sym e)
 
-next-entry-requires : tie.Need-next-entry-requires
-next-entry-requires c κs =
+entry-at-requires : tie.Need-entry-at-requires
+entry-at-requires c κs =
     let x = c .before in
     let d = x .before .before in
     let k = known d (x .source .given .1) in
@@ -55,13 +55,13 @@ returns c =
     let d = x .before .before in
     let a = start d .args in
     let k = known d (x .source .given .1) in
-    let r = e .next-entry in
+    let r = e .entry-at in
     let is = x .source .given .0 .0 in
     answered d _ (x .source .given .1)
     (record {
       fits = r .ensures .inside;
       same = entry-named (now (a .text)) is (a .index) (a .cur .at) (k .0) (k .1) (k .2) (r .result) (r .ensures);
-      behind = next-read (now (a .text)) is (a .index) (a .cur .at) (k .0) (k .1) (k .2) (r .result) (r .ensures);
+      behind = rw (c .after-entry .ensures) (next-read (now (a .text)) is (a .index) (a .cur .at) (k .0) (k .1) (k .2) (r .result) (r .ensures));
     })
 
 returns-2 : tie.Need-returns-2
@@ -77,7 +77,8 @@ next-name-spec =
     tie.close
     (tie.spec
     (λ c. search needs)
-    next-entry-requires
+    entry-at-requires
+    (λ c κs. search needs)
     (λ c. search needs)
     bring-requires
     returns
