@@ -86,6 +86,9 @@ fn resolve_short(
             return Attempt::NoRoom;
         }
     };
+    if resolve_settling::FEW_TERMS < tally.terms {
+        return Attempt::NoRoom;
+    }
     resolve_settling::settle_few(
         block,
         lists,
@@ -148,7 +151,7 @@ fn resolve_long(
             return resolve_settling::refuse(resolve_settling::TOO_LARGE, 0);
         }
     };
-    match resolve_settling::settle_many(
+    match resolve_settling::settle(
         block,
         lists,
         labels,

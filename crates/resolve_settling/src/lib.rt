@@ -132,7 +132,7 @@ fn put_made(
 // Up to some 30 terms, scans take less time than the table of `resolve_merging` does. (`resolve_merging_few` can do 64.)
 pub const FEW_TERMS: usize = 32;
 
-// The answer of what the statements bring, if that is few terms: they are merged and grouped by scans.
+// The answer of what the statements bring, where that is few terms: they are merged and grouped by scans.
 pub fn settle_few(
     block: &[u8],
     lists: &[u32],
@@ -148,15 +148,13 @@ pub fn settle_few(
     work: &mut [u32],
 ) -> Attempt
     requires { ⌜ (now labels ≡ labelTable) × (now keys ≡ keywordTable) × Stands (now block) (now lists) layout
-        × StaysWritten (handedContext (now block) (now lists)) tally (now dropped) (now work) (now made) × (2048 ≤ length (now work)) ⌝ }
+        × StaysWritten (handedContext (now block) (now lists)) tally (now dropped) (now work) (now made) × (2048 ≤ length (now work))
+        × (tally .terms ≤ 32) ⌝ }
     ensures { λ r. ⌜ ((b : StaysWritten (handedContext (now (block .entry)) (now (lists .entry))) tally (now (dropped .entry)) (now (work .entry))
         (now (made .entry)))
         → AttemptAs (definition.mergeAndGround (handedContext (now (block .entry)) (now (lists .entry))) (b .there .what)) (now (ground .entry)) room
-        (now (notes .entry)) (now (ground .exit)) (now (notes .exit)) (now (work .exit)) r) ⌝ }
+        (now (notes .entry)) (now (ground .exit)) (now (notes .exit)) (now (work .exit)) r) × Roomy (now (made .entry)) r ⌝ }
 {
-    if FEW_TERMS < tally.terms {
-        return Attempt::NoRoom;
-    }
     let mut listed = [0; 128];
     match resolve_merging_few::settle_few(work, tally.terms, &mut listed) {
         Merged::Refused(index) => Attempt::Answer(refuse(FORCED_TWICE, index as usize)),
@@ -180,9 +178,8 @@ pub fn settle_few(
     }
 }
 
-// The answer of what the statements bring, of any number of terms: they stand on a bench that has room behind them for the table and the groups
-// of `resolve_merging`.
-pub fn settle_many(
+// The same for any number of terms: they stand on a bench that has room behind them for the table and the groups of `resolve_merging`.
+fn settle_many(
     block: &[u8],
     lists: &[u32],
     labels: &Labels,
@@ -235,5 +232,59 @@ pub fn settle_many(
         notes,
         work,
         &work[resolve_merging::GROUPS..],
+    )
+}
+
+// The answer of what the statements bring: which way they are merged goes by their number alone.
+pub fn settle(
+    block: &[u8],
+    lists: &[u32],
+    labels: &Labels,
+    keys: &Keywords,
+    layout: Layout,
+    tally: Tally,
+    dropped: &[u8],
+    made: &mut [u8],
+    ground: &mut [u8],
+    room: usize,
+    notes: &mut [[u8; 2]],
+    bench: &mut [u32],
+) -> Attempt
+    requires { ⌜ (now labels ≡ labelTable) × (now keys ≡ keywordTable) × Stands (now block) (now lists) layout
+        × StaysWritten (handedContext (now block) (now lists)) tally (now dropped) (now bench) (now made) × (6656 ≤ length (now bench)) ⌝ }
+    ensures { λ r. ⌜ ((b : StaysWritten (handedContext (now (block .entry)) (now (lists .entry))) tally (now (dropped .entry)) (now (bench .entry))
+        (now (made .entry)))
+        → AttemptAs (definition.mergeAndGround (handedContext (now (block .entry)) (now (lists .entry))) (b .there .what)) (now (ground .entry)) room
+        (now (notes .entry)) (now (ground .exit)) (now (notes .exit)) (now (bench .exit)) r) × Roomy (now (made .entry)) r ⌝ }
+{
+    if FEW_TERMS < tally.terms {
+        return settle_many(
+            block,
+            lists,
+            labels,
+            keys,
+            layout,
+            tally,
+            dropped,
+            made,
+            ground,
+            room,
+            notes,
+            bench,
+        );
+    }
+    settle_few(
+        block,
+        lists,
+        labels,
+        keys,
+        layout,
+        tally,
+        dropped,
+        made,
+        ground,
+        room,
+        notes,
+        bench,
     )
 }

@@ -25,7 +25,7 @@ start k = k .before .before .before .before .before .before .before .before .bef
 abbrev taken-at : tie.After-tally → tie.After-take-text
 taken-at t = t .before .before .before .before .before .before
 
-abbrev tallied-at : tie.After-settle-many → tie.After-tally
+abbrev tallied-at : tie.After-settle → tie.After-tally
 tallied-at r = r .before .before .before .before .before .before .before .before
 
 take-text-requires : tie.Need-take-text-requires
@@ -94,9 +94,9 @@ read-layout-requires c κs =
     let h = subst (TakenAs _ _ _ _ _ _ _ _ _ _ _) (t .tally .given .1) (k .take-text .ensures) in
     handed-heads-fit (now (a .block)) (now (a .lists)) (h .handed)
 
-settle-many-requires : tie.Need-settle-many-requires
+settle-requires : tie.Need-settle-requires
 unfolding TakenAs
-settle-many-requires c κs =
+settle-requires c κs =
     let l = c .before .before .before .before .before in
     let t = l .before .before in
     let k = taken-at t in
@@ -116,12 +116,12 @@ answered :
     let t = tallied-at r in
     let a = start (taken-at t) .args in
     Answers (mergeAndGround (handedContext (now (a .block)) (now (a .lists))) (there t .there .what)) (now (a .ground)) (a .room) (now (a .notes))
-    (r .settle-many .last .1 .1 .1 .1 .1 .1 .1 .1 .0) (r .settle-many .last .1 .1 .1 .1 .1 .1 .1 .1 .1 .1 .0)
-    (r .settle-many .last .1 .1 .1 .1 .1 .1 .1 .1 .1 .1 .1 .0) (x .resolved .given .0 .0)
+    (r .settle .last .1 .1 .1 .1 .1 .1 .1 .1 .0) (r .settle .last .1 .1 .1 .1 .1 .1 .1 .1 .1 .1 .0)
+    (r .settle .last .1 .1 .1 .1 .1 .1 .1 .1 .1 .1 .1 .0) (x .resolved .given .0 .0)
 unfolding AttemptAs
 answered x =
     let r = x .before .before .before .before .before .before .before in
-    subst (AttemptAs _ _ _ _ _ _ _) (x .resolved .given .1) (r .settle-many .ensures .0 (there (tallied-at r)))
+    subst (AttemptAs _ _ _ _ _ _ _) (x .resolved .given .1) (r .settle .ensures .0 (there (tallied-at r)))
 
 -- the effects stand on the bench, and there is room for as many in the working buffer
 put-packed-requires : tie.Need-put-packed-requires
@@ -158,7 +158,7 @@ returns-4 c =
     let r = o .before .before .before .before .before .before .before in
     let t = tallied-at r in
     let k = taken-at t in
-    let small = subst (Roomy _) (o .enum-told2 .given .1) (r .settle-many .ensures .1) in
+    let small = subst (Roomy _) (o .enum-told2 .given .1) (r .settle .ensures .1) in
     absurd (omega (arith, small, room t, k .before .before .before .before .before .no-text .ensures))
 
 pub resolve-long-spec : {M : Type 1} → statement M
@@ -183,7 +183,7 @@ resolve-long-spec =
     (λ c. search needs)
     (λ c. search needs)
     (λ c. search needs)
-    settle-many-requires
+    settle-requires
     (λ c. search needs)
     (λ c. search needs)
     (λ c κs. search needs)

@@ -34,10 +34,15 @@ returns-2 : tie.Need-returns-2
 unfolding AttemptAs
 returns-2 c = (refl, refl)
 
+-- more terms than scans are for
+returns-3 : tie.Need-returns-3
+unfolding AttemptAs
+returns-3 c = (refl, refl)
+
 read-layout-requires : tie.Need-read-layout-requires
 unfolding TakenAs
 read-layout-requires c κs =
-    let t = c .before in
+    let t = c .before .before .before in
     let k = taken-at t in
     let a = start k .args in
     let h = subst (TakenAs _ _ _ _ _ _ _ _ _ _ _) (t .tally .given .1) (k .take-text .ensures) in
@@ -47,7 +52,7 @@ settle-few-requires : tie.Need-settle-few-requires
 unfolding TakenAs
 settle-few-requires c κs =
     let l = c .before .before .before .before .before in
-    let t = l .before .before in
+    let t = l .before .before .before .before in
     let k = taken-at t in
     let s = start k in
     let h = subst (TakenAs _ _ _ _ _ _ _ _ _ _ _) (t .tally .given .1) (k .take-text .ensures) in (
@@ -56,19 +61,27 @@ settle-few-requires c κs =
       record { is = h .handed; there = l .read-layout .ensures },
       text-there h refl (s .pre .4),
       omega (arith, s .pre .4, same-room (h .brought .added .terms)),
+      l .before .if1 .left,
     )
 
-returns-3 : tie.Need-returns-3
+-- the working buffer is as long as it was
+same-length-6 : tie.Need-same-length-6
+same-length-6 c =
+    let l = c .before .before .before .before .before .before .before .before .before .before .before .before in
+    let t = l .before .before .before .before in
+    omega (arith, t .before .before .before .before .before .work .given, c .before .work2 .given)
+
+returns-4 : tie.Need-returns-4
 unfolding TakenAs
-returns-3 c =
+returns-4 c =
     let d = c .before .before .before .before .before .before in
     let l = d .before .before .before .before .before .before in
-    let t = l .before .before in
+    let t = l .before .before .before .before in
     let k = taken-at t in
     let s = start k in
     let h = subst (TakenAs _ _ _ _ _ _ _ _ _ _ _) (t .tally .given .1) (k .take-text .ensures) in
     same-few _ _ _ _ _ _ _ _ (d .settle-few .result) (text-resolved h refl (s .pre .4))
-    (d .settle-few .ensures (text-there h refl (s .pre .4)))
+    (d .settle-few .ensures .0 (text-there h refl (s .pre .4)))
 
 pub resolve-short-spec : {M : Type 1} → statement M
 resolve-short-spec =
@@ -85,11 +98,13 @@ resolve-short-spec =
     (λ c. search needs)
     (λ c. search needs)
     returns-2
+    (λ c. search needs)
+    returns-3
     read-layout-requires
     (λ c. search needs)
     (λ c. search needs)
     settle-few-requires
     (λ c. search needs)
     (λ c. search needs)
-    (λ c. search needs)
-    returns-3)
+    same-length-6
+    returns-4)
