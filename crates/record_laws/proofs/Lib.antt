@@ -1,5 +1,3 @@
-pub mod At
 pub mod Call
-pub mod Find
 pub mod Lending
 pub mod Store

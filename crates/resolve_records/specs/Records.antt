@@ -1,7 +1,5 @@
 -- Document 01, The calls offered: "An effect is five numbers". The record that stands for an effect of the definition, and for a packed one.
 use Prim.Native.Nat.{ℕ}
-use mathlib.Core.Bool.{Bool, _&&_}
-use lib.Dec.{eqb}
 use Rattle.resolving.specs.Effects as definition
 use Rattle.resolve_merging.specs.Packing.{effectOf}
 use Rattle.resolve_records.specs.declared.Effect.{Effect}
@@ -18,10 +16,3 @@ recordOf e =
 
 abbrev pub unpacked : ℕ → Effect
 unpacked n = recordOf (effectOf n)
-
-abbrev pub noEffect : Effect
-noEffect = record { parameter = 0; covariate = 0; form = 0; operator = 0; optional = 0 }
-
--- whether an effect is of a pair
-abbrev pub isOf : ℕ → ℕ → Effect → Bool
-isOf parameter covariate e = eqb (e .parameter) parameter && eqb (e .covariate) covariate

@@ -4,11 +4,10 @@ ghost use mathlib.Core.Path.{_≡_};
 ghost use mathlib.Core.List.{_++_, map};
 ghost use Prim.Native.Nat.{_+_, _*_, _≤_, _<_};
 ghost use lib.ListN.{length, getD, take, drop};
-ghost use Rattle.record_laws.specs.First.{firstIndex};
 ghost use Rattle.resolving.specs.Resolve.{groundText};
 ghost use Rattle.resolving.specs.Call.{resolveCall, lengthsOf, outputOf, workAfter, noteNumbers};
 ghost use Rattle.resolve_settling.specs.Answers.{Packed, resolvedAs, lengthsAs, rooms, lent};
-ghost use Rattle.resolve_records.specs.Records.{recordOf, unpacked, noEffect, isOf};
+ghost use Rattle.resolve_records.specs.Records.{recordOf, unpacked};
 ghost use Rattle.resolve_records.specs.Words.{lengthsWord, resolvedWord, effectsTold, Small};
 use resolve_settling::Lengths;
 use resolve_settling::Resolved;
@@ -50,40 +49,6 @@ pub fn store_effects(effects: &mut [Effect], packed: &[u32], n: usize)
         effects[i] = e;
         i += 1;
     }
-}
-
-// The effect at an index.
-pub fn effect_at(effects: &[Effect], i: usize) -> Effect
-    requires { ⌜ i < length (now effects) ⌝ }
-    ensures { λ r. ⌜ r ≡ getD (now (effects .entry)) i noEffect ⌝ }
-{
-    effects[i]
-}
-
-fn is_of(e: Effect, parameter: u8, covariate: u8) -> bool
-    ensures { λ r. ⌜ r ≡ isOf parameter covariate e ⌝ }
-{
-    if e.parameter == parameter {
-        e.covariate == covariate
-    } else {
-        false
-    }
-}
-
-// The index of the first of n effects that is of a pair, or n.
-pub fn find_effect(effects: &[Effect], n: usize, parameter: u8, covariate: u8) -> usize
-    requires { ⌜ n ≤ length (now effects) ⌝ }
-    ensures { λ r. ⌜ r ≡ firstIndex (isOf parameter covariate) (take n (now (effects .entry))) ⌝ }
-{
-    let mut i: usize = 0;
-    while i < n {
-        let e = effects[i];
-        if is_of(e, parameter, covariate) {
-            return i;
-        }
-        i += 1;
-    }
-    i
 }
 
 fn lengths_word(n: Lengths) -> u64
