@@ -1,3 +1,5 @@
 pub mod FullSize
 pub mod Places
+pub mod Values
+pub mod ValueExamples
 pub mod Calls

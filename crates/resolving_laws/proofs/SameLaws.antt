@@ -15,7 +15,7 @@ use Rattle.resolving_laws.proofs.FromWords.{from-words, statementFrom}
 -- Lists are the same where they are equal, if their elements are.
 
 module _ {A : Type 0} (same : A → A → Bool) where
-  list-equal : ((x y : A) → same x y ≡ true → x ≡ y) → (l m : List A) → sameList same l m ≡ true → l ≡ m
+  pub list-equal : ((x y : A) → same x y ≡ true → x ≡ y) → (l m : List A) → sameList same l m ≡ true → l ≡ m
   list-equal h [] [] e = refl
   list-equal h [] (y ∷ m) e = absurd (false≢true e)
   list-equal h (x ∷ l) [] e = absurd (false≢true e)
@@ -23,7 +23,7 @@ module _ {A : Type 0} (same : A → A → Bool) where
       let k = halves (same x y) (sameList same l m) e in
       ap₂ _∷_ (h x y (k .0)) (list-equal h l m (k .1))
 
-  list-self : ((x : A) → same x x ≡ true) → (l : List A) → sameList same l l ≡ true
+  pub list-self : ((x : A) → same x x ≡ true) → (l : List A) → sameList same l l ≡ true
   list-self h [] = refl
   list-self h (x ∷ l) = ap₂ _&&_ (h x) (list-self h l)
 
