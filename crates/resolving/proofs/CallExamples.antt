@@ -154,11 +154,15 @@ lengths g e n = record { ground = g; effects = e; notes = n }
 abbrev sample : String
 sample = "COVARIATE(CL,WT,lin,+);IIV(@PD,EXP)"
 
--- a run, a text, the lengths of the outputs, and that of the working buffer
-abbrev calling : List ℕ → String → Lengths → ℕ → Answer Lengths
-calling run text lent work = lengthsOf (resolveCall 64 block run (bytes text) lent work)
+-- a ceiling, a run, a text, the lengths of the outputs, and that of the working buffer
+abbrev callingUnder : ℕ → List ℕ → String → Lengths → ℕ → Answer Lengths
+callingUnder limit run text lent work = lengthsOf (resolveCall limit block run (bytes text) lent work)
 
--- "19 for it comes before every other refusal"; "Reading faults come next, .. then 12, 13", and 19 for an output comes last.
+abbrev calling : List ℕ → String → Lengths → ℕ → Answer Lengths
+calling run text lent work = callingUnder 64 run text lent work
+
+-- "19 for it comes before every other refusal, later requests' included", so before 21 too; "Reading faults come next, .. then 12, 13", and 19
+-- for an output comes last.
 pub calls-checked :
     calling numbers sample (lengths 22 1 2) 2048
     ∷ calling numbers sample (lengths 21 1 2) 2048
@@ -170,6 +174,8 @@ pub calls-checked :
     ∷ calling (0 ∷ []) "LAGTIME(" (lengths 0 0 0) 2048
     ∷ calling (0 ∷ []) "LET(A,V);LET(A,V)" (lengths 0 0 0) 2048
     ∷ calling numbers "LET(A,V);LET(A,V)" (lengths 0 0 0) 2048
+    ∷ callingUnder 257 (0 ∷ []) "(" (lengths 0 0 0) 2047
+    ∷ callingUnder 257 (0 ∷ []) "(" (lengths 0 0 0) 2048
     ∷ []
     ≡ accepted (lengths 22 1 2)
     ∷ refused 19 0
@@ -181,6 +187,8 @@ pub calls-checked :
     ∷ refused 3 8
     ∷ refused 12 0
     ∷ refused 13 1
+    ∷ refused 19 0
+    ∷ refused 21 0
     ∷ []
 unfolding resolveCall resolveHanded isRun givenIn pairsAt bindingsAt declaredAt
     resolveText readText readFrom turn opened featureMade letMade closed
@@ -223,6 +231,15 @@ pub leaves-checked :
 unfolding textShapes statementShapes partsOf featureParts labelsOf keywords
 leaves-checked = (refl, (refl, (refl, (refl, refl))))
 
+-- a refusal leaves the outputs as they were, and the working buffer zero all the same
 pub refused-leaves :
-    Leaves (refused 15 2) (λ a. a) (refused 15 2) effectNumbers (bytes "...") (bytes "...") fives fives twos twos (6 ∷ []) (6 ∷ [])
+    Leaves (refused 15 2) (λ a. a) (refused 15 2) effectNumbers
+    (bytes "...")
+    (bytes "...")
+    fives
+    fives
+    twos
+    twos
+    (replicate 2048 6)
+    (replicate 2048 0)
 refused-leaves = (refl, (refl, (refl, (refl, refl))))
