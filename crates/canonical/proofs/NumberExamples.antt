@@ -45,6 +45,7 @@ examples =
     ∷ ("DIRECTEFFECT(STEP)" ⟶ 7 ∷ 0 ∷ 1 ∷ 1 ∷ 3 ∷ [])
     ∷ ("EFFECTCOMP(*)" ⟶ 8 ∷ 0 ∷ 0 ∷ [])
     ∷ ("INDIRECTEFFECT([EMAX,LINEAR],*)" ⟶ 9 ∷ 0 ∷ 1 ∷ 2 ∷ 1 ∷ 0 ∷ 0 ∷ [])
+    ∷ ("METABOLITE([PSC,BASIC])" ⟶ 10 ∷ 0 ∷ 1 ∷ 2 ∷ 1 ∷ 0 ∷ [])
     ∷ ("IIV?(*,[EXP])" ⟶ 11 ∷ 1 ∷ 0 ∷ 1 ∷ 1 ∷ 0 ∷ [])
     ∷ ("IOV([1,CL],ADD)" ⟶ 12 ∷ 0 ∷ 7 ∷ 2 ∷ 5 ∷ 1 ∷ 7 ∷ 2 ∷ 1 ∷ 1 ∷ 1 ∷ [])
     ∷ ("COVARIANCE(IIV,*)" ⟶ 13 ∷ 0 ∷ 1 ∷ 1 ∷ 0 ∷ 0 ∷ [])

@@ -3,7 +3,7 @@
 -- Assumes nothing.
 use Prim.Native.Nat.{ℕ}
 use Prim.Native.String.{String}
-use mathlib.Core.Path.{_≡_, refl}
+use mathlib.Core.Path.{_≡_, refl, _∙_, sym}
 use mathlib.Core.List.{List, [], _∷_, map}
 use Rattle.text.specs.Bytes.{bytes}
 use Rattle.tokens.specs.Class.{classOf}
@@ -21,7 +21,7 @@ use Rattle.reading.specs.Syntax.{opened, featureMade, letMade, closed, turn}
 use Rattle.reading.specs.Read.{readFrom, readText}
 use Rattle.reading.specs.Parts.{featureParts, partsOf}
 use Rattle.canonical.specs.Canonical.{statementShapes, textShapes}
-use Rattle.canonical.specs.Print.{printText, fitting, lengthOf, output}
+use Rattle.canonical.specs.Print.{printText, fitting, lengthOf, output, Answers}
 use lib.ListN.{length}
 
 -- a text, what the output holds before, Print's answer, and what the output holds afterwards
@@ -66,3 +66,24 @@ unfolding readText readFrom turn opened featureMade letMade closed
     scanned tokensAfter follow frontOf dots numberRest fraction classOf
     printText textShapes statementShapes partsOf featureParts digitsOf digitsIn
 outputs-checked = refl
+
+-- What a call answers that fills an output, and the output afterwards: an answer with room to spare, one with just enough, one with too
+-- little, and a refusal.
+
+pub room-to-spare : Answers (accepted (bytes "ON")) (bytes "abcd") (bytes "ONcd") (accepted 2)
+room-to-spare = record { told = refl; left = refl }
+
+pub just-room : Answers (accepted (bytes "ON")) (bytes "ab") (bytes "ON") (accepted 2)
+just-room = record { told = refl; left = refl }
+
+pub too-little-room : Answers (accepted (bytes "ON")) (bytes "a") (bytes "a") (refused 19 0)
+too-little-room = record { told = refl; left = refl }
+
+pub refused-whatever-room : Answers (refused 3 8) [] [] (refused 3 8)
+refused-whatever-room = record { told = refl; left = refl }
+
+-- Nothing is left free: of one answer and one output there is one thing to tell and one output afterwards.
+pub nothing-free :
+    {a : Answer (List ℕ)} {before after other : List ℕ} {r q : Answer ℕ} → Answers a before after r → Answers a before other q
+    → (r ≡ q) × (after ≡ other)
+nothing-free x y = (x .told ∙ sym (y .told), x .left ∙ sym (y .left))
