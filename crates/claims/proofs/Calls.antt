@@ -42,7 +42,7 @@ use Rattle.read_values.proofs.Joining.{joined}
 use Rattle.text.specs.Lists.{gather}
 use Rattle.text.proofs.All.{All, finished, also, map-each}
 use Rattle.text.proofs.Permuted.{Permuted, map-permuted}
-use Rattle.text.proofs.Often.{often-permuted}
+use Rattle.text.proofs.Often.{permuted-often, often-permuted}
 use Rattle.resolving.specs.Faults.{wrongContext}
 use Rattle.resolving.specs.Resolve.{Resolved, groundText, resolve}
 use Rattle.resolving.specs.Given.{isContext, contextIn, resolveText}
@@ -53,7 +53,7 @@ use Rattle.resolving_laws.specs.Claims as definitions
 use Rattle.resolving_laws.specs.Claims.{SameEffects}
 use Rattle.reading.proofs.Answers.{not-refused, passed-test, bind-passed}
 use Rattle.resolving_laws.proofs.Texts.{reordered-alike, ground-text-kept}
-use Rattle.resolving_laws.proofs.SameLaws.{permuted-as-often}
+use Rattle.resolving_laws.proofs.SameLaws.{as-often-permuted, permuted-as-often}
 use Rattle.profiling.specs.Profile.{profileText}
 use Rattle.profiling.proofs.GroundPasses.{ground-passes}
 use Rattle.claims.specs.Values.{valueIn, sameValue}
@@ -169,7 +169,16 @@ values-are limit text n r =
         also (value-spelled text s (stand-some (among-first (statementNames s) (textNames ss)) h))
         (each-spelled ss (stand-some (among-last (statementNames s) (among-all (textNames ss))) h))
 
--- Texts of the same values are of the same statements.
+-- Texts of the same values are of the same statements, and the other way round.
+
+told-again : (ss : List Statement) → map statementFrom (map valueOf ss) ≡ map forget ss
+told-again [] = refl
+told-again (s ∷ ss) = ap₂ _∷_ (from-value s) (told-again ss)
+
+valued-again : (ss : List Statement) → map valueOf (map forget ss) ≡ map valueOf ss
+valued-again [] = refl
+valued-again (s ∷ ss) = ap₂ _∷_ (value-forgets s) (valued-again ss)
+
 pub values-same : (limit : ℕ) (a d : List ℕ) → SameValues limit a d → SameStatements limit a d
 values-same limit a d s =
     let x = counted-read limit a (s .first) (s .counts) in
@@ -186,10 +195,22 @@ values-same limit a d s =
       counts-too = s .counts-too;
       as-often = λ t. rw (statements-are limit a (s .first) x, statements-are limit d (s .second) y) (permuted-as-often q t);
     }
-  where
-    told-again : (ss : List Statement) → map statementFrom (map valueOf ss) ≡ map forget ss
-    told-again [] = refl
-    told-again (s ∷ ss) = ap₂ _∷_ (from-value s) (told-again ss)
+
+pub same-valued : (limit : ℕ) (a d : List ℕ) → SameStatements limit a d → SameValues limit a d
+same-valued limit a d s =
+    let x = counted-read limit a (s .first) (s .counts) in
+    let y = counted-read limit d (s .second) (s .counts-too) in
+    let p : Permuted (map forget (x .statements)) (map forget (y .statements)) =
+    as-often-permuted _ _ (λ t. rw (sym (statements-are limit a (s .first) x), sym (statements-are limit d (s .second) y)) (s .as-often t)) in
+    let q : Permuted (map valueOf (x .statements)) (map valueOf (y .statements)) =
+    subst₂ Permuted (valued-again (x .statements)) (valued-again (y .statements)) (map-permuted valueOf p) in
+    record {
+      first = s .first;
+      second = s .second;
+      counts = s .counts;
+      counts-too = s .counts-too;
+      as-often = λ v. rw (values-are limit a (s .first) x, values-are limit d (s .second) y) (permuted-often sameValue value-equal value-self q v);
+    }
 
 -- Resolve with buffers of full size.
 
