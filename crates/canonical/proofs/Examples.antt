@@ -70,6 +70,7 @@ examples =
     ∷ ("indirecteffect([Emax,linear],production)" ⟶ prints 1 "INDIRECTEFFECT([EMAX,LINEAR],PRODUCTION)")
     ∷ ("iiv?([1,CL],exp);iov([CL],re_log)" ⟶ prints 2 "IIV?([1,CL],EXP);IOV(CL,RE_LOG)")
     ∷ ("covariance?(*,@iiv)" ⟶ prints 1 "COVARIANCE?(*,@iiv)")
+    ∷ ("iiv( * ,log);covariate?(*,*,pow)" ⟶ prints 2 "IIV(*,LOG);COVARIATE?(*,*,pow)")
     ∷ ("let(Pk,[CL]);LET(x,[1,y])" ⟶ prints 2 "LET(Pk,CL);LET(x,[1,y])")
     ∷ []
 
