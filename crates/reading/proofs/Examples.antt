@@ -8,7 +8,8 @@ use mathlib.Core.Path.{_≡_, refl}
 use mathlib.Core.List.{List, [], _∷_, map}
 use mathlib.Core.Option.{some, none}
 use lib.ListN.{length}
-use Rattle.text.specs.Bytes.{bytes}
+use Rattle.text.specs.Bytes.{bytes, countUp}
+use Rattle.text.specs.Lists.{gather}
 use Rattle.tokens.specs.Class.{classOf}
 use Rattle.tokens.specs.Token.{separator, finish, _▸_}
 use Rattle.tokens.specs.Lex.{fraction, numberRest, dots, frontOf, follow, tokensAfter, tokens}
@@ -119,6 +120,9 @@ faults =
     ∷ ("LAGTIME ON" ⟶ refusal 3 8)
     ∷ ("LAGTIME(ON,)" ⟶ refusal 3 11)
     ∷ ("LAGTIME(ON) LAGTIME(ON)" ⟶ refusal 3 12)
+    -- the text's end, not the statement's
+    ∷ (";LAGTIME(" ⟶ refusal 3 9)
+    ∷ ("LAGTIME(ON);LAGTIME(" ⟶ refusal 3 20)
     ∷ ("IIV(@1,EXP)" ⟶ refusal 3 5)
     ∷ ("IIV([CL,],EXP)" ⟶ refusal 3 8)
     ∷ ("IIV([CL;V],EXP)" ⟶ refusal 3 7)
@@ -346,6 +350,17 @@ unfolding readText readFrom turn opened featureMade letMade closed
     scanned tokensAfter follow frontOf dots numberRest fraction classOf digitsIn
 many-checked = refl
 
+-- From the start of a text 256 statements stand, and a 257th is refused where it starts.
+abbrev copies : ℕ → String → List ℕ
+copies n s = gather (λ i. bytes s) (countUp 0 n)
+
+pub all-256 : outcome (readText 64 (copies 256 "LET(A,B);")) ∷ outcome (readText 64 (copies 257 "LET(A,B);")) ∷ [] ≡ stands 256 ∷ refusal 11 2304 ∷ []
+unfolding readText readFrom turn opened letMade closed
+    itemsOf
+    sameWord keywords
+    scanned tokensAfter follow frontOf dots numberRest fraction classOf
+all-256 = refl
+
 -- Statements by value.
 pub record Reading : Type 0 where
   pub text : String
@@ -489,11 +504,11 @@ lagtime s =
     readOne 64 (length (bytes s)) (argument (featureCall (as-written 0 "LAGTIME") false [])) (tokens (bytes s))
 
 pub alone-checked :
-    map lagtime ("ON)" ∷ "ON);" ∷ "ON" ∷ "ON$" ∷ "NO)" ∷ [])
+    map lagtime ("ON)" ∷ "ON);" ∷ "ON" ∷ "ON $" ∷ "NO)" ∷ [])
     ≡ whole (feature (Lagtime (modes (1 ∷ [])))) finish
     ∷ whole (feature (Lagtime (modes (1 ∷ [])))) (record { place = 3; shape = separator } ▸ finish)
     ∷ halted 3 2
-    ∷ halted 2 2
+    ∷ halted 2 3
     ∷ halted 10 0
     ∷ []
 unfolding readOne turn featureMade closed
