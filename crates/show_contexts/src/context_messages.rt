@@ -4,11 +4,11 @@ use crate::rows;
 pub use crate::wrong::put_wrong;
 use show_pages::pages;
 use show_pages::places;
+use show_pages::strange;
 
 // The word at a place.
 fn put_word(page: &mut [u8], len: usize, file: &[u8], place: usize) -> usize {
-    let end = rows::word_end(file, place, places::line_end(file, place));
-    pages::put_quoted(page, len, file, place, end)
+    pages::put_quoted(page, len, file, place, rows::word_behind(file, place))
 }
 
 fn put_cause(page: &mut [u8], len: usize, file: &[u8], cause: u8, place: usize) -> usize {
@@ -43,8 +43,12 @@ fn put_cause(page: &mut [u8], len: usize, file: &[u8], cause: u8, place: usize) 
     }
 }
 
-// A file that is malformed at a place.
+// A file that is malformed at a place. A strange byte of the word there is told before anything else.
 pub fn put_malformed(page: &mut [u8], len: usize, file: &[u8], cause: u8, place: usize) -> usize {
+    let odd = rows::strange_in(file, place);
+    if odd < file.len() {
+        return strange::put_found(page, len, file, odd);
+    }
     let a = places::put_place(page, len, file, place);
     let b = put_cause(page, a, file, cause, place);
     let c = pages::put(page, b, b'\n');

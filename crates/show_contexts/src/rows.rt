@@ -1,6 +1,7 @@
 // The rows of a context file: a line that is not blank, up to a comment, and its first word.
 use show_pages::pages;
 use show_pages::places;
+use show_pages::strange;
 
 // Whether a line has a word; the list that the word names, 5 where it names none; the word from one offset to another; where the row's bytes
 // end; and where the next line starts.
@@ -56,6 +57,19 @@ pub fn word_start(file: &[u8], from: usize, to: usize) -> usize {
 
 pub fn word_end(file: &[u8], from: usize, to: usize) -> usize {
     pass(file, from, to, false)
+}
+
+// The end of the word that starts at an offset; a comment is no part of it.
+pub fn word_behind(file: &[u8], at: usize) -> usize {
+    let line = places::line_end(file, at);
+    word_end(file, at, find_byte(file, at, line, b'#'))
+}
+
+// The offset of the first strange byte of the word that starts at an offset, or the file's length.
+pub fn strange_in(file: &[u8], at: usize) -> usize {
+    let end = word_behind(file, at);
+    let found = strange::find_strange(file, at, end);
+    if found < end { found } else { file.len() }
 }
 
 // Whether a part of the file is a word, ignoring case.

@@ -4,6 +4,7 @@ use crate::context_names::Pair;
 use crate::rows;
 use show_pages::pages;
 use show_pages::places;
+use show_pages::strange;
 use show_texts::scenes;
 
 // What can be wrong with a name.
@@ -111,7 +112,7 @@ fn wrong_list(block: &[u8], lists: &[u32]) -> usize {
 }
 
 // The offset of an entry in the file.
-fn entry_place(file: &[u8], list: usize, index: usize) -> usize {
+pub fn entry_place(file: &[u8], list: usize, index: usize) -> usize {
     let row = rows::row_at(file, rows::find_row(file, list));
     let mut at = row.after;
     let mut i = 0;
@@ -141,6 +142,10 @@ fn put_entry(
     let index = first_wrong(block, lists, list);
     let pair = pair_at(lists, list, index);
     let place = entry_place(file, row_of(list), index);
+    let odd = rows::strange_in(file, place);
+    if odd < file.len() {
+        return strange::put_found(page, len, file, odd);
+    }
     let a = places::put_place(page, len, file, place);
     let b = pages::put_quoted(page, a, block, pair.offset, context_names::end_of(pair));
     let c = put_fault(page, b, wrong_with(block, pair));

@@ -1,5 +1,6 @@
 // Bytes that a program means to write, kept until all of them are there. Each function takes how many are kept and answers how many are; one
 // more than the page has room for says that some are lost, and such a page is not written.
+use crate::visible;
 ghost use Rattle.io.specs.Counts.{Counts};
 
 // A number of bytes, cut to those that there are.
@@ -64,10 +65,10 @@ fn further(from: usize, n: usize) -> usize {
 pub fn put_quoted(page: &mut [u8], len: usize, bytes: &[u8], from: usize, to: usize) -> usize {
     let n = put(page, len, b'`');
     if 40 < between(from, to) {
-        let m = put_part(page, n, bytes, from, further(from, 40));
+        let m = visible::put_visible(page, n, bytes, from, further(from, 40));
         return put_all(page, m, b"..`");
     }
-    let m = put_part(page, n, bytes, from, to);
+    let m = visible::put_visible(page, n, bytes, from, to);
     put(page, m, b'`')
 }
 

@@ -1,6 +1,7 @@
 // Where an offset stands in a text, for a person: the line and the column as an editor counts them, from 1, a column a byte; and the line
 // itself with a mark under the place.
 use crate::pages;
+use crate::visible;
 ghost use Prim.Native.Nat.{_+_, _≤_, _<_, _^_};
 ghost use lib.ListN.{length};
 
@@ -61,14 +62,6 @@ pub fn line_end(text: &[u8], offset: usize) -> usize {
     at
 }
 
-// Whether a byte goes on a character that stands on one column with the byte before it.
-fn is_inside(byte: u8) -> bool {
-    if byte < 128 {
-        return false;
-    }
-    byte < 192
-}
-
 // The first offset, from one on, that is inside no character.
 fn whole(text: &[u8], from: usize, end: usize) -> usize {
     let mut at = from;
@@ -76,7 +69,7 @@ fn whole(text: &[u8], from: usize, end: usize) -> usize {
         if text.len() <= at {
             return at;
         }
-        if !is_inside(text[at]) {
+        if !visible::is_inside(text[at]) {
             return at;
         }
         at += 1;
@@ -84,53 +77,34 @@ fn whole(text: &[u8], from: usize, end: usize) -> usize {
     at
 }
 
-// A byte as it is shown: one that would move the line on a screen is a `?`, but for the tab, under which the mark has a tab too.
-fn put_shown(page: &mut [u8], len: usize, byte: u8) -> usize {
-    if byte == b'\t' {
-        return pages::put(page, len, byte);
+// So many blanks, at most four.
+fn put_blanks(page: &mut [u8], len: usize, columns: usize) -> usize {
+    match columns {
+        1 => pages::put(page, len, b' '),
+        2 => pages::put_all(page, len, b"  "),
+        _ => pages::put_all(page, len, b"    "),
     }
-    if byte < 32 {
-        return pages::put(page, len, b'?');
-    }
-    if byte == 127 {
-        return pages::put(page, len, b'?');
-    }
-    pages::put(page, len, byte)
 }
 
-// What stands above the mark's line before the mark, as blanks.
-fn put_blank(page: &mut [u8], len: usize, byte: u8) -> usize {
-    if byte == b'\t' {
-        return pages::put(page, len, byte);
+// What stands on the mark's line below the first character: blanks as wide as it is shown, or a tab.
+fn put_below(page: &mut [u8], len: usize, rest: &[u8]) -> usize {
+    if 0 < rest.len() {
+        if rest[0] == b'\t' {
+            return pages::put(page, len, b'\t');
+        }
     }
-    if is_inside(byte) {
-        return len;
-    }
-    pages::put(page, len, b' ')
+    put_blanks(page, len, visible::columns_of(rest))
 }
 
-fn put_one(page: &mut [u8], len: usize, byte: u8, blank: bool) -> usize {
-    if blank {
-        return put_blank(page, len, byte);
-    }
-    put_shown(page, len, byte)
-}
-
-// A part of a line, as it is shown or as blanks.
-fn put_line(
-    page: &mut [u8],
-    len: usize,
-    text: &[u8],
-    from: usize,
-    to: usize,
-    blank: bool,
-) -> usize {
+// What stands on the mark's line below a part of the text, before the mark.
+fn put_before(page: &mut [u8], len: usize, text: &[u8], from: usize, to: usize) -> usize {
     let end = pages::within(to, text);
     let mut n = len;
     let mut i = from;
     while i < end {
-        n = put_one(page, n, text[i], blank);
-        i += 1;
+        let rest = &text[i..end];
+        n = put_below(page, n, rest);
+        i += 1 + visible::following(rest);
     }
     n
 }
@@ -183,10 +157,10 @@ pub fn put_marked(page: &mut [u8], len: usize, text: &[u8], offset: usize) -> us
     let cut = cut_around(text, start, offset);
     let whole = cut.from == start;
     let a = pages::put_either(page, len, whole, b"  ", b"  ..");
-    let b = put_line(page, a, text, cut.from, cut.to, false);
+    let b = visible::put_visible(page, a, text, cut.from, cut.to);
     let c = pages::put_either(page, b, cut.ended, b"\n", b"..\n");
     let d = pages::put_either(page, c, whole, b"  ", b"    ");
-    let e = put_line(page, d, text, cut.from, offset, true);
+    let e = put_before(page, d, text, cut.from, offset);
     pages::put_all(page, e, b"^\n")
 }
 

@@ -9,6 +9,7 @@ use crate::scenes;
 use crate::scenes::Scene;
 use show_pages::pages;
 use show_pages::places;
+use show_pages::strange;
 
 // A byte that starts no token.
 fn put_stray(page: &mut [u8], len: usize, text: &[u8], place: usize) -> usize {
@@ -26,15 +27,8 @@ fn put_stray(page: &mut [u8], len: usize, text: &[u8], place: usize) -> usize {
             b"a hyphen with no word before it; there are no negative numbers",
         );
     }
-    if 127 < byte {
-        return pages::put_all(
-            page,
-            len,
-            b"a character beyond ASCII, which may stand in a comment alone",
-        );
-    }
-    if byte < 32 {
-        return pages::put_all(page, len, b"a control character");
+    if (byte < 32) | (126 < byte) {
+        return strange::put_strange(page, len, text, place);
     }
     let n = pages::put_quoted(page, len, text, place, scenes::more(place));
     pages::put_all(page, n, b" starts no word, number or mark")
