@@ -15,7 +15,7 @@ fn no_terms() -> Terms {
 }
 
 // Whether an argument is a symbol or `*`.
-fn is_sign(text: &[u8], from: usize) -> bool {
+pub fn is_sign(text: &[u8], from: usize) -> bool {
     let token = scenes::token_at(text, from);
     (token.kind == b'@') | (token.kind == b'*')
 }

@@ -1,4 +1,5 @@
 // Which operand, name or covariate a statement is refused for, as Resolve itself says of each by itself (`probes`).
+use crate::covariate;
 use crate::probes;
 use crate::probes::Probed;
 use show_contexts::context_names;
@@ -144,6 +145,9 @@ pub fn missing_place(
     if start < text.len() {
         let values = operand_places::values_of(text, operand, start);
         return first_missing(probe, lets, text, values, block, lists);
+    }
+    if covariate::is_sign(text, operand.from) {
+        return operand.from;
     }
     first_missing(probe, lets, text, operand, block, lists)
 }

@@ -9,7 +9,7 @@ use show_pages::places;
 use show_texts::scenes;
 
 // A pair by its names, `CL-WT`.
-fn put_pair(page: &mut [u8], len: usize, block: &[u8], lists: &[u32], pair: usize) -> usize {
+pub fn put_pair(page: &mut [u8], len: usize, block: &[u8], lists: &[u32], pair: usize) -> usize {
     let a = context_names::put_name(
         page,
         len,

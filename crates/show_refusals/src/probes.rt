@@ -68,17 +68,17 @@ fn put_first(
     pages::put_part(probe, len, block, pair.offset, context_names::end_of(pair))
 }
 
-// What a probe resolves to.
-fn resolve_probe(
+// What a probe resolves to, with room for any answer.
+pub fn resolve_probe(
     probe: &[u8],
     len: usize,
     block: &[u8],
     lists: &[u32],
     effects: &mut [[u8; 5]],
 ) -> Probed {
-    let mut ground = io::large_buffer();
-    let mut notes = [[0; 2]; 512];
-    let mut work = [0; 8192];
+    let mut ground = [0; 16384];
+    let mut notes = [[0; 2]; 257];
+    let mut work = [0; 2048];
     let n = pages::within(len, probe);
     match resolve_call::resolve(
         &probe[..n],
