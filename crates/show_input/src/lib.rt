@@ -106,9 +106,15 @@ pub fn write_all(fd: i32, bytes: &[u8]) -> Wrote {
     Wrote::Stuck
 }
 
+// What every failure's line begins with, so that a script can tell one: the program, and that it failed.
+pub fn tell_failed(program: &[u8]) {
+    io::write_all(2, program);
+    io::write_all(2, b"failed: ");
+}
+
 // Tells which program failed at what, and why the last call did.
 pub fn tell(program: &[u8], what: &[u8]) {
-    io::write_all(2, program);
+    tell_failed(program);
     os::fail(what)
 }
 
@@ -167,7 +173,7 @@ pub fn write_answer(program: &[u8], answer: &[u8]) {
     match write_all(1, answer) {
         Wrote::All => {}
         Wrote::Stuck => {
-            io::write_all(2, program);
+            tell_failed(program);
             io::write_all(2, b"standard output: takes no more bytes\n");
         }
         Wrote::Failed => tell(program, b"standard output"),
@@ -177,7 +183,7 @@ pub fn write_answer(program: &[u8], answer: &[u8]) {
 // So many bytes of a page as the answer. One that is over-full is told, and nothing of it is written.
 pub fn write_page(program: &[u8], page: &[u8], count: usize) {
     if page.len() < count {
-        io::write_all(2, program);
+        tell_failed(program);
         io::write_all(2, b"the answer is longer than its buffer\n");
         return;
     }
