@@ -13,6 +13,7 @@ use show_contexts::context_messages;
 use show_input::Got;
 use show_pages::pages;
 use show_refusals::ground_messages;
+use show_refusals::warnings;
 
 // The message for a person: what is wrong with the context has its file's name before it.
 fn explain(
@@ -33,6 +34,29 @@ fn explain(
     }
     let b = ground_messages::put_fault(page, a, text, block, lists, refusal.number, refusal.place);
     show_input::write_message(page, b)
+}
+
+// What is lawful and yet lost: behind the notes where they are asked for, and for a person otherwise.
+fn warn(
+    page: &mut [u8],
+    asked: Asked,
+    text: &[u8],
+    block: &[u8],
+    lists: &[u32],
+    file: &[u8],
+    effects: &[[u8; 5]],
+) {
+    match asked {
+        Asked::Notes => {
+            let n = warnings::put_warnings(page, text, block, lists, file, effects, b"warning: ");
+            show_input::write_page(b"ground: ", page, n)
+        }
+        _ => {
+            let word = b"ground: warning: ";
+            let n = warnings::put_warnings(page, text, block, lists, file, effects, word);
+            show_input::write_message(page, n)
+        }
+    }
 }
 
 // The answer about a text in a context. The page has room for 2,048 effects and 257 notes in words, which is more than anything else has.
@@ -56,21 +80,25 @@ fn answer(asked: Asked, text: &[u8], block: &[u8], lists: &[u32], path: &[u8], f
             show_input::write_page(b"ground: ", &page, n);
             explain(&mut page, text, block, lists, path, file, refusal)
         }
-        Resolved::Lengths(lengths) => ground_files::write_asked(
-            &mut page,
-            asked,
-            text,
-            block,
-            lists,
-            &ground,
-            &effects,
-            &notes,
-            Sizes {
-                ground: lengths.ground,
-                effects: lengths.effects,
-                notes: lengths.notes,
-            },
-        ),
+        Resolved::Lengths(lengths) => {
+            ground_files::write_asked(
+                &mut page,
+                asked,
+                text,
+                block,
+                lists,
+                &ground,
+                &effects,
+                &notes,
+                Sizes {
+                    ground: lengths.ground,
+                    effects: lengths.effects,
+                    notes: lengths.notes,
+                },
+            );
+            let n = within::effects(lengths.effects, &effects);
+            warn(&mut page, asked, text, block, lists, file, &effects[..n])
+        }
     }
 }
 
@@ -90,7 +118,7 @@ fn answer_context(asked: Asked, text: &[u8], path: &[u8], file: &[u8]) {
 // A file that fills its buffer may go on beyond it.
 fn answer_file(asked: Asked, text: &[u8], path: &[u8], file: &[u8], length: usize) {
     if file.len() <= length {
-        io::write_all(2, b"ground: ");
+        show_input::tell_failed(b"ground: ");
         io::write_all(2, path);
         io::write_all(2, b": more than 65535 bytes, the most of a context file\n");
         return;

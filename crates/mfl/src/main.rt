@@ -73,7 +73,7 @@ fn answer_got(asked: Asked, text: &[u8], got: Got, page: &mut [u8]) {
 fn usage() {
     io::write_all(
         2,
-        b"mfl: usage: mfl [--profile] [FILE]\n  writes the canonical text of FILE, or of standard input, or `refused NUMBER PLACE`\n  --profile: writes `ok` where the text fits the PK-only profile, or `refused NUMBER PLACE`\n",
+        b"mfl: failed: usage: mfl [--profile] [FILE]\n  writes the canonical text of FILE, or of standard input, or `refused NUMBER PLACE`\n  --profile: writes `ok` where the text fits the PK-only profile, or `refused NUMBER PLACE`\n",
     );
 }
 

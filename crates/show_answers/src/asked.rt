@@ -11,7 +11,7 @@ pub enum Asked {
 pub fn usage() {
     io::write_all(
         2,
-        b"ground: usage: ground [--effects | --notes] CONTEXT [FILE]\n  writes the ground text of FILE, or of standard input, in the context of the file CONTEXT; its effects or its notes; or `refused NUMBER PLACE`\n",
+        b"ground: failed: usage: ground [--effects | --notes] CONTEXT [FILE]\n  writes the ground text of FILE, or of standard input, in the context of the file CONTEXT; its effects or its notes; or `refused NUMBER PLACE`\n",
     );
 }
 

@@ -58,7 +58,7 @@ pub fn write_asked(
 // A context file that is malformed.
 pub fn tell_malformed(path: &[u8], file: &[u8], taken: Taken) {
     let mut page = io::large_buffer();
-    let a = pages::put_all(&mut page, 0, b"ground: ");
+    let a = pages::put_all(&mut page, 0, b"ground: failed: ");
     let b = pages::put_all(&mut page, a, path);
     let c = pages::put_all(&mut page, b, b": ");
     let d = context_messages::put_malformed(&mut page, c, file, taken.cause, taken.place);
