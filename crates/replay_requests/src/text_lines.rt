@@ -1,4 +1,5 @@
 // What is asked about a text alone, and the answer: its tokens, Count, Statement, Print and the profile.
+use crate::statements;
 use print_render::Printed;
 use read_profile::Profiled;
 use read_text::CountRead;
@@ -32,7 +33,7 @@ fn answer_statement(text: &[u8], index: usize, ceiling: u32, out: &mut [u8], len
     match found {
         StatementAt::Statement(statement) => {
             let n = output::put_all(out, len, b"ok");
-            replay_statements::put_statement(out, n, value, statement)
+            statements::put_statement(out, n, value, statement)
         }
         StatementAt::Refused(r) => output::refused(out, len, r.number as usize, r.place),
     }

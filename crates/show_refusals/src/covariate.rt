@@ -1,6 +1,6 @@
 // A COVARIATE's parameters and covariates, and how it is marked.
+use crate::pair_tables::Terms;
 use crate::probes;
-use show_names::pair_tables::Terms;
 use show_texts::scenes;
 
 fn no_terms() -> Terms {

@@ -1,11 +1,11 @@
 // Which operand, name or covariate a statement is refused for, as Resolve itself says of each by itself (`probes`).
 use crate::covariate;
+use crate::effects;
+use crate::operand_places;
+use crate::operand_places::Operand;
 use crate::probes;
 use crate::probes::Probed;
 use show_contexts::context_names;
-use show_names::effects;
-use show_names::operand_places;
-use show_names::operand_places::Operand;
 use show_texts::scenes;
 use tokens::Token;
 

@@ -1,10 +1,10 @@
 // Why a text is refused in a context, in words, whatever the number: the causes of 13 to 18 are looked for by resolving parts of the text.
 use crate::culprits;
+use crate::kinds;
+use crate::names;
 use crate::pair_messages;
 use crate::probes;
-use show_names::kinds;
-use show_names::names;
-use show_names::symbols;
+use crate::symbols;
 use show_texts::scenes;
 use show_texts::text_messages;
 

@@ -2,9 +2,9 @@
 // What a COVARIATE brings is asked of Resolve, of a text with the LETs and that statement alone; what is lost is what the whole text's answer lacks.
 use crate::covariate;
 use crate::lets;
+use crate::pair_tables;
 use crate::probes;
 use replay_lines::within;
-use show_names::pair_tables;
 use show_pages::pages;
 use show_texts::scenes;
 

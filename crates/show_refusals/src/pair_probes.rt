@@ -1,7 +1,7 @@
 // What the COVARIATEs of a text bring, one after the other: the parameters, covariates and forms of each, found by probes, go into tables.
 pub use crate::covariate::covariate_at;
-use show_names::pair_tables;
-use show_names::pair_tables::Terms;
+use crate::pair_tables;
+use crate::pair_tables::Terms;
 use show_texts::scenes;
 
 // Marks the pairs of a statement, if it is a COVARIATE of named parameters.

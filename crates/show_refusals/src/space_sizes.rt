@@ -1,11 +1,11 @@
 // How large a space is that is refused by 18: its effects before merging, and its ground statements.
 use crate::culprits;
+use crate::form_tables;
+use crate::form_tables::count_effects;
+use crate::form_tables::fill_forms;
+use crate::form_tables::sum;
+use crate::operand_places;
 use crate::pair_probes::covariate_at;
-use show_names::form_tables;
-use show_names::form_tables::count_effects;
-use show_names::form_tables::fill_forms;
-use show_names::form_tables::sum;
-use show_names::operand_places;
 use show_texts::scenes;
 
 // How many effects a statement has before merging.
