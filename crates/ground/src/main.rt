@@ -1,13 +1,15 @@
 // Resolves a search space in the context of a model: reads the context from a file, the text from a file or from standard input, and writes
 // the ground text and a newline, or `refused`, the fault's number and its place. A word asks for the effects or for the notes as lines. Where
-// the text is refused a person also gets the cause on standard error, and where it is not, the notes.
+// the text is refused a person also gets the cause on standard error, and where it is not, the notes. What is written on standard output is made
+// by `resolve_lines`, whose contract says it.
+ghost use Prim.Native.Nat.{_≤_};
+use print_lines::Asked;
 use read_forms::Refusal;
 use replay_lines::within;
 use resolve_settling::Resolved;
 use show_answers::asked;
-use show_answers::asked::Asked;
+use show_answers::asked::Wanted;
 use show_answers::ground_files;
-use show_answers::ground_files::Sizes;
 use show_contexts::context_file;
 use show_contexts::context_messages;
 use show_input::Got;
@@ -66,7 +68,8 @@ fn answer(asked: Asked, text: &[u8], block: &[u8], lists: &[u32], path: &[u8], f
     let mut effects = [[0; 5]; 2048];
     let mut notes = [[0; 2]; 512];
     let mut work = [0; 8192];
-    match resolve_call::resolve(
+    let lines = resolve_lines::resolve_lines(
+        asked,
         text,
         block,
         lists,
@@ -74,30 +77,17 @@ fn answer(asked: Asked, text: &[u8], block: &[u8], lists: &[u32], path: &[u8], f
         &mut effects,
         &mut notes,
         &mut work,
-    ) {
-        Resolved::Refused(refusal) => {
-            let n = pages::put_refused(&mut page, refusal.number, refusal.place);
-            show_input::write_page(b"ground: ", &page, n);
-            explain(&mut page, text, block, lists, path, file, refusal)
-        }
-        Resolved::Lengths(lengths) => {
-            ground_files::write_asked(
-                &mut page,
-                asked,
-                text,
-                block,
-                lists,
-                &ground,
-                &effects,
-                &notes,
-                Sizes {
-                    ground: lengths.ground,
-                    effects: lengths.effects,
-                    notes: lengths.notes,
-                },
-            );
-            let n = within::effects(lengths.effects, &effects);
-            warn(&mut page, asked, text, block, lists, file, &effects[..n])
+        &mut page,
+        64,
+    );
+    show_input::write_page(b"ground: ", &page, lines.count);
+    let answer = lines.answer;
+    match answer {
+        Resolved::Refused(refusal) => explain(&mut page, text, block, lists, path, file, refusal),
+        Resolved::Lengths(n) => {
+            ground_files::tell_unasked(asked, &mut page, text, &notes, n.notes);
+            let m = within::effects(n.effects, &effects);
+            warn(&mut page, asked, text, block, lists, file, &effects[..m])
         }
     }
 }
@@ -153,12 +143,14 @@ fn answer_named(asked: Asked, path: &[u8], index: usize, count: usize) {
 }
 
 // The name of the context's file is the argument at an index; at the next one the text's may follow.
-fn answer_arguments(asked: Asked, index: usize, next: usize, count: usize, name: &mut [u8]) {
+fn answer_arguments(asked: Asked, index: usize, count: usize, name: &mut [u8])
+    requires { ⌜ index ≤ 2 ⌝ }
+{
     match show_input::argument(b"ground: ", index, name) {
         Got::Failed => {}
         Got::Bytes(n) => {
             let whole = pages::within(n, name);
-            answer_named(asked, &name[..whole], next, count)
+            answer_named(asked, &name[..whole], index + 1, count)
         }
     }
 }
@@ -166,10 +158,8 @@ fn answer_arguments(asked: Asked, index: usize, next: usize, count: usize, name:
 fn main() {
     let mut name = io::buffer();
     let count = os::arg_count();
-    let asked = asked::asked_for(count, &mut name);
-    match asked {
-        Asked::Nothing => asked::usage(),
-        Asked::Ground => answer_arguments(asked, 1, 2, count, &mut name),
-        _ => answer_arguments(asked, 2, 3, count, &mut name),
+    match asked::asked_for(count, &mut name) {
+        Wanted::Nothing => asked::usage(),
+        Wanted::Lines(asked) => answer_arguments(asked, asked::first_file(asked), count, &mut name),
     }
 }

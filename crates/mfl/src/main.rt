@@ -1,6 +1,8 @@
 // Reads a search space from a file or from standard input and writes its canonical text and a newline, or `refused`, the fault's number and
 // its place. Where it is refused a person also gets the cause on standard error. Nothing is written on standard output before all was read.
-// With `--profile` it writes `ok` where the space fits the PK-only profile.
+// With `--profile` it writes `ok` where the space fits the PK-only profile. What is written is made by `print_answers`, whose contracts say it.
+ghost use Prim.Native.Nat.{_≤_};
+ghost use lib.ListN.{length};
 use print_render::Printed;
 use read_forms::Refusal;
 use read_profile::Profiled;
@@ -26,33 +28,31 @@ fn explain(text: &[u8], page: &mut [u8], refusal: Refusal) {
     show_input::write_message(page, b)
 }
 
-fn refuse(text: &[u8], page: &mut [u8], refusal: Refusal) {
-    let n = pages::put_refused(page, refusal.number, refusal.place);
-    show_input::write_page(b"mfl: ", page, n);
-    explain(text, page, refusal)
-}
-
-fn answer_print(text: &[u8], page: &mut [u8]) {
-    match print_render::print(text, page) {
-        Printed::Length(length) => {
-            let n = pages::put(page, length, b'\n');
-            show_input::write_page(b"mfl: ", page, n)
-        }
-        Printed::Refused(refusal) => refuse(text, page, refusal),
+fn answer_print(text: &[u8], page: &mut [u8])
+    requires { ⌜ 16384 ≤ length (now page) ⌝ }
+{
+    let line = print_answers::print_line(text, page, 64);
+    show_input::write_page(b"mfl: ", page, line.count);
+    let answer = line.answer;
+    match answer {
+        Printed::Length(_) => {}
+        Printed::Refused(refusal) => explain(text, page, refusal),
     }
 }
 
 fn answer_profile(text: &[u8], page: &mut [u8]) {
-    match read_profile::profile_under(text, 64) {
-        Profiled::Fits => {
-            let n = pages::put_all(page, 0, b"ok\n");
-            show_input::write_page(b"mfl: ", page, n)
-        }
-        Profiled::Refused(refusal) => refuse(text, page, refusal),
+    let line = print_answers::profile_line(text, page, 64);
+    show_input::write_page(b"mfl: ", page, line.count);
+    let answer = line.answer;
+    match answer {
+        Profiled::Fits => {}
+        Profiled::Refused(refusal) => explain(text, page, refusal),
     }
 }
 
-fn answer(asked: Asked, text: &[u8], page: &mut [u8]) {
+fn answer(asked: Asked, text: &[u8], page: &mut [u8])
+    requires { ⌜ 16384 ≤ length (now page) ⌝ }
+{
     match asked {
         Asked::Print => answer_print(text, page),
         Asked::Profile => answer_profile(text, page),
@@ -60,7 +60,9 @@ fn answer(asked: Asked, text: &[u8], page: &mut [u8]) {
 }
 
 // What was read, answered; a failure was told already.
-fn answer_got(asked: Asked, text: &[u8], got: Got, page: &mut [u8]) {
+fn answer_got(asked: Asked, text: &[u8], got: Got, page: &mut [u8])
+    requires { ⌜ 16384 ≤ length (now page) ⌝ }
+{
     match got {
         Got::Bytes(n) => {
             let whole = pages::within(n, text);
@@ -78,7 +80,9 @@ fn usage() {
 }
 
 // A file of this name, unless it starts as an option does.
-fn answer_file(asked: Asked, path: &[u8], text: &mut [u8], page: &mut [u8]) {
+fn answer_file(asked: Asked, path: &[u8], text: &mut [u8], page: &mut [u8])
+    requires { ⌜ 16384 ≤ length (now page) ⌝ }
+{
     if 0 < path.len() {
         if path[0] == b'-' {
             return usage();
@@ -88,13 +92,17 @@ fn answer_file(asked: Asked, path: &[u8], text: &mut [u8], page: &mut [u8]) {
     answer_got(asked, text, got, page)
 }
 
-fn answer_input(asked: Asked, text: &mut [u8], page: &mut [u8]) {
+fn answer_input(asked: Asked, text: &mut [u8], page: &mut [u8])
+    requires { ⌜ 16384 ≤ length (now page) ⌝ }
+{
     let got = show_input::read_input(b"mfl: ", text);
     answer_got(asked, text, got, page)
 }
 
 // The file that the argument at an index names, or standard input where it is the argument behind the last. More than one is none.
-fn answer_named(asked: Asked, index: usize, name: &mut [u8], text: &mut [u8], page: &mut [u8]) {
+fn answer_named(asked: Asked, index: usize, name: &mut [u8], text: &mut [u8], page: &mut [u8])
+    requires { ⌜ 16384 ≤ length (now page) ⌝ }
+{
     let count = os::arg_count();
     if count <= index {
         return answer_input(asked, text, page);

@@ -1,5 +1,6 @@
 // One request line and its answer.
-use crate::resolve_lines;
+use crate::context_lines;
+use crate::context_lines::Wanted;
 use crate::text_lines;
 use crate::text_lines::Asked;
 use replay_lines::output;
@@ -128,7 +129,30 @@ fn answer_request(line: &[u8], ceiling: u32, text: &mut [u8], out: &mut [u8], le
         return answer_hex(Asked::Profile, ceiling, line, 8, text, out, len);
     }
     if words::begins(line, b"resolve") {
-        return resolve_lines::answer_resolve(line, 8, ceiling, text, out, len);
+        return context_lines::answer_resolve(Wanted::Words, line, 8, ceiling, text, out, len);
+    }
+    answer_written(line, ceiling, text, out, len)
+}
+
+// What a program writes: `mfl`, and `ground` with each of its words.
+fn answer_written(line: &[u8], ceiling: u32, text: &mut [u8], out: &mut [u8], len: usize) -> usize {
+    if words::begins(line, b"line") {
+        return answer_hex(Asked::Line, ceiling, line, 5, text, out, len);
+    }
+    if words::begins(line, b"line-profile") {
+        return answer_hex(Asked::ProfileLine, ceiling, line, 13, text, out, len);
+    }
+    if words::begins(line, b"line-ground") {
+        let wanted = Wanted::Lines(print_lines::Asked::Ground);
+        return context_lines::answer_resolve(wanted, line, 12, ceiling, text, out, len);
+    }
+    if words::begins(line, b"line-effects") {
+        let wanted = Wanted::Lines(print_lines::Asked::Effects);
+        return context_lines::answer_resolve(wanted, line, 13, ceiling, text, out, len);
+    }
+    if words::begins(line, b"line-notes") {
+        let wanted = Wanted::Lines(print_lines::Asked::Notes);
+        return context_lines::answer_resolve(wanted, line, 11, ceiling, text, out, len);
     }
     output::malformed(out, len)
 }

@@ -7,7 +7,7 @@ use read_text::StatementAt;
 use replay_lines::lexed;
 use replay_lines::output;
 
-// What is asked about a text; `PrintIn` has the bytes of the output.
+// What is asked about a text; `PrintIn` has the bytes of the output. `Line` and `ProfileLine` are what `mfl` and `mfl --profile` write.
 pub enum Asked {
     Tokens,
     Count,
@@ -15,6 +15,8 @@ pub enum Asked {
     Print,
     PrintIn(usize),
     Profile,
+    Line,
+    ProfileLine,
 }
 
 fn answer_count(text: &[u8], ceiling: u32, out: &mut [u8], len: usize) -> usize {
@@ -76,6 +78,24 @@ fn answer_print(
     }
 }
 
+// So many bytes that a program writes, in hex digits.
+pub fn put_written(out: &mut [u8], len: usize, page: &[u8], count: usize) -> usize {
+    let n = output::put_all(out, len, b"ok ");
+    output::put_hex(out, n, page, 0, count)
+}
+
+fn answer_line(text: &[u8], ceiling: u32, out: &mut [u8], len: usize) -> usize {
+    let mut page = io::large_buffer();
+    let line = print_answers::print_line(text, &mut page, ceiling);
+    put_written(out, len, &page, line.count)
+}
+
+fn answer_profile_line(text: &[u8], ceiling: u32, out: &mut [u8], len: usize) -> usize {
+    let mut page = io::large_buffer();
+    let line = print_answers::profile_line(text, &mut page, ceiling);
+    put_written(out, len, &page, line.count)
+}
+
 pub fn answer_text(asked: Asked, ceiling: u32, text: &[u8], out: &mut [u8], len: usize) -> usize {
     match asked {
         Asked::Tokens => lexed::answer_tokens(text, out, len),
@@ -84,5 +104,7 @@ pub fn answer_text(asked: Asked, ceiling: u32, text: &[u8], out: &mut [u8], len:
         Asked::Print => answer_print(text, 65536, ceiling, b"ok", out, len),
         Asked::PrintIn(room) => answer_print(text, room, ceiling, b"ok -", out, len),
         Asked::Profile => answer_profile(text, ceiling, out, len),
+        Asked::Line => answer_line(text, ceiling, out, len),
+        Asked::ProfileLine => answer_profile_line(text, ceiling, out, len),
     }
 }

@@ -1,10 +1,11 @@
 // What the arguments ask for.
+ghost use Prim.Native.Nat.{_≤_};
+use print_lines::Asked;
 use show_pages::pages;
 
-pub enum Asked {
-    Ground,
-    Effects,
-    Notes,
+// Lines, or nothing where the arguments are not as they should be.
+pub enum Wanted {
+    Lines(Asked),
     Nothing,
 }
 
@@ -16,27 +17,30 @@ pub fn usage() {
 }
 
 // What a first argument asks for: a file's name does not start with a hyphen.
-fn asked_by(word: &[u8]) -> Asked {
+fn asked_by(word: &[u8]) -> Wanted {
     if labels::same_word(word, b"--effects") {
-        return Asked::Effects;
+        return Wanted::Lines(Asked::Effects);
     }
     if labels::same_word(word, b"--notes") {
-        return Asked::Notes;
+        return Wanted::Lines(Asked::Notes);
     }
     if word.len() == 0 {
-        return Asked::Ground;
+        return Wanted::Lines(Asked::Ground);
     }
     if word[0] == b'-' {
-        return Asked::Nothing;
+        return Wanted::Nothing;
     }
-    Asked::Ground
+    Wanted::Lines(Asked::Ground)
 }
 
-fn is_option(asked: Asked) -> bool {
+// The index of the first file's name: an option stands before it.
+pub fn first_file(asked: Asked) -> usize
+    ensures { λ r. ⌜ r ≤ 2 ⌝ }
+{
     match asked {
-        Asked::Effects => true,
-        Asked::Notes => true,
-        _ => false,
+        Asked::Ground => 1,
+        Asked::Effects => 2,
+        Asked::Notes => 2,
     }
 }
 
@@ -53,35 +57,32 @@ fn is_hyphened(index: usize, count: usize, name: &mut [u8]) -> bool {
 }
 
 // The names of one or two files follow from an index on.
-fn if_files(asked: Asked, index: usize, count: usize, name: &mut [u8]) -> Asked {
+fn if_files(asked: Asked, count: usize, name: &mut [u8]) -> Wanted {
+    let index = first_file(asked);
     if count <= index {
-        return Asked::Nothing;
+        return Wanted::Nothing;
     }
     if 2 < count - index {
-        return Asked::Nothing;
+        return Wanted::Nothing;
     }
     if is_hyphened(index, count, name) {
-        return Asked::Nothing;
+        return Wanted::Nothing;
     }
     if is_hyphened(index + 1, count, name) {
-        return Asked::Nothing;
+        return Wanted::Nothing;
     }
-    asked
+    Wanted::Lines(asked)
 }
 
 // What the arguments ask for, or nothing where they are not as they should be.
-pub fn asked_for(count: usize, name: &mut [u8]) -> Asked {
+pub fn asked_for(count: usize, name: &mut [u8]) -> Wanted {
     if count < 2 {
-        return Asked::Nothing;
+        return Wanted::Nothing;
     }
     let n = os::arg(1, name);
     let whole = pages::within(n, name);
-    let first = asked_by(&name[..whole]);
-    if is_option(first) {
-        return if_files(first, 2, count, name);
-    }
-    match first {
-        Asked::Ground => if_files(first, 1, count, name),
-        _ => Asked::Nothing,
+    match asked_by(&name[..whole]) {
+        Wanted::Lines(asked) => if_files(asked, count, name),
+        Wanted::Nothing => Wanted::Nothing,
     }
 }

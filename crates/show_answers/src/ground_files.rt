@@ -1,57 +1,31 @@
-// What `ground` reads and writes around its call: its words, the text, what was asked for, and what is wrong with a context file.
-use crate::answer_lines;
-use crate::asked::Asked;
+// What `ground` reads and tells around its call: the text, notes that were not asked for, and what is wrong with a context file.
+use print_lines::Asked;
 use show_contexts::context_file::Taken;
 use show_contexts::context_messages;
 use show_input::Got;
 use show_pages::pages;
 
-// How many bytes the ground text has, and how many effects and notes there are.
-pub struct Sizes {
-    pub ground: usize,
-    pub effects: usize,
-    pub notes: usize,
-}
-
-// The ground text and a newline.
-fn write_ground(page: &mut [u8], ground: &[u8], length: usize) {
-    let a = pages::put_part(page, 0, ground, 0, length);
-    let b = pages::put(page, a, b'\n');
-    show_input::write_page(b"ground: ", page, b)
-}
-
-// The notes, for a person.
+// The notes, for a person. What Resolve gives is never as much as is left out here, so that nothing has to be known of it.
 fn tell_notes(page: &mut [u8], text: &[u8], notes: &[[u8; 2]], count: usize) {
-    let n = answer_lines::put_notes(page, 0, text, notes, count, b"ground: note: ");
+    if 16384 < text.len() {
+        return;
+    }
+    if 257 < count {
+        return;
+    }
+    if notes.len() < count {
+        return;
+    }
+    let n = print_lines::put_notes(text, notes, count, b"ground: note: ", page);
     show_input::write_message(page, n)
 }
 
-// What was asked for.
-pub fn write_asked(
-    page: &mut [u8],
-    asked: Asked,
-    text: &[u8],
-    block: &[u8],
-    lists: &[u32],
-    ground: &[u8],
-    effects: &[[u8; 5]],
-    notes: &[[u8; 2]],
-    sizes: Sizes,
-) {
+// Where the notes are not what was asked for, they are told on standard error, so that none is lost.
+pub fn tell_unasked(asked: Asked, page: &mut [u8], text: &[u8], notes: &[[u8; 2]], count: usize) {
     match asked {
-        Asked::Notes => {
-            let n = answer_lines::put_notes(page, 0, text, notes, sizes.notes, b"");
-            show_input::write_page(b"ground: ", page, n)
-        }
-        Asked::Effects => {
-            let n = answer_lines::put_effects(page, 0, block, lists, effects, sizes.effects);
-            show_input::write_page(b"ground: ", page, n);
-            tell_notes(page, text, notes, sizes.notes)
-        }
-        _ => {
-            write_ground(page, ground, sizes.ground);
-            tell_notes(page, text, notes, sizes.notes)
-        }
+        Asked::Notes => {}
+        Asked::Ground => tell_notes(page, text, notes, count),
+        Asked::Effects => tell_notes(page, text, notes, count),
     }
 }
 

@@ -1,4 +1,3 @@
-// Effects and notes as lines (`answer_lines`), and what `ground` reads and writes (`ground_files`).
-pub mod answer_lines;
+// What the arguments of `ground` ask for (`asked`), and what it reads and tells around its call (`ground_files`).
 pub mod asked;
 pub mod ground_files;

@@ -87,12 +87,3 @@ pub fn put_either(page: &mut [u8], len: usize, test: bool, yes: &[u8], no: &[u8]
     }
     put_all(page, len, no)
 }
-
-// `refused NUMBER PLACE` and a newline, from the page's start on.
-pub fn put_refused(page: &mut [u8], number: u8, place: usize) -> usize {
-    let a = put_all(page, 0, b"refused ");
-    let b = put_number(page, a, number as usize);
-    let c = put(page, b, b' ');
-    let d = put_number(page, c, place);
-    put(page, d, b'\n')
-}

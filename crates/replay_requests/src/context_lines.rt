@@ -1,4 +1,7 @@
-// `resolve HEX MARKS BLOCK LISTS`, where the lengths of what is lent may follow, `G,E,N,W`; and its answer.
+// `resolve HEX MARKS BLOCK LISTS`, where the lengths of what is lent may follow, `G,E,N,W`; `line-ground`, `line-effects` and `line-notes` with a text
+// and a context; and their answers.
+use crate::text_lines;
+use print_lines::Asked;
 use replay_lines::contexts;
 use replay_lines::contexts::Handed;
 use replay_lines::contexts::Went;
@@ -8,6 +11,12 @@ use replay_lines::within;
 use replay_lines::words;
 use replay_lines::words::Decoded;
 use resolve_settling::Resolved;
+
+// What is asked of a text in a context: Resolve's answer in words, or what `ground` writes.
+pub enum Wanted {
+    Words,
+    Lines(Asked),
+}
 
 // How many bytes of ground text, effects, notes and numbers to work with are lent.
 struct Lent {
@@ -143,8 +152,39 @@ fn read_lent(line: &[u8], end: usize) -> Lending {
     })
 }
 
+// What `ground` writes of a text in a context.
+fn answer_written(
+    asked: Asked,
+    text: &[u8],
+    block: &[u8],
+    lists: &[u32],
+    ceiling: u32,
+    out: &mut [u8],
+    len: usize,
+) -> usize {
+    let mut page = [0; 262144];
+    let mut ground = io::large_buffer();
+    let mut effects = [[0; 5]; 2048];
+    let mut notes = [[0; 2]; 512];
+    let mut work = [0; 8192];
+    let lines = resolve_lines::resolve_lines(
+        asked,
+        text,
+        block,
+        lists,
+        &mut ground,
+        &mut effects,
+        &mut notes,
+        &mut work,
+        &mut page,
+        ceiling,
+    );
+    text_lines::put_written(out, len, &page, lines.count)
+}
+
 // The answer about a text, where the context starts at an offset of the line. A context of more than 16,384 numbers is none.
 fn answer_context(
+    wanted: Wanted,
     line: &[u8],
     from: usize,
     ceiling: u32,
@@ -162,16 +202,27 @@ fn answer_context(
     else {
         return output::malformed(out, len);
     };
-    let Lending::Lent(lent) = read_lent(line, end) else {
-        return output::malformed(out, len);
-    };
     let b = output::within(bytes, &block);
     let n = within::numbers(count, &numbers);
-    answer_lent(text, &block[..b], &numbers[..n], ceiling, lent, out, len)
+    match wanted {
+        Wanted::Words => {
+            let Lending::Lent(lent) = read_lent(line, end) else {
+                return output::malformed(out, len);
+            };
+            answer_lent(text, &block[..b], &numbers[..n], ceiling, lent, out, len)
+        }
+        Wanted::Lines(asked) => {
+            if end < line.len() {
+                return output::malformed(out, len);
+            }
+            answer_written(asked, text, &block[..b], &numbers[..n], ceiling, out, len)
+        }
+    }
 }
 
 // The answer to a line whose text starts at an offset. The empty text is `-`.
 pub fn answer_resolve(
+    wanted: Wanted,
     line: &[u8],
     from: usize,
     ceiling: u32,
@@ -190,5 +241,5 @@ pub fn answer_resolve(
         return output::malformed(out, len);
     };
     let n = output::within(bytes, text);
-    answer_context(line, end + 1, ceiling, &text[..n], out, len)
+    answer_context(wanted, line, end + 1, ceiling, &text[..n], out, len)
 }
