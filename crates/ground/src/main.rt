@@ -2,16 +2,18 @@
 // the ground text and a newline, or `refused`, the fault's number and its place. A word asks for the effects or for the notes as lines. Where
 // the text is refused a person also gets the cause on standard error, and where it is not, the notes. What is written on standard output is made
 // by `resolve_lines`, whose contract says it.
-ghost use Prim.Native.Nat.{_≤_};
+mod asked;
+mod ground_files;
+
+use crate::asked::Wanted;
+use crate::asked::Wish;
 use print_lines::Asked;
 use read_forms::Refusal;
 use replay_lines::within;
 use resolve_settling::Resolved;
-use show_answers::asked;
-use show_answers::asked::Wanted;
-use show_answers::ground_files;
 use show_contexts::context_file;
 use show_contexts::context_messages;
+use show_input::Ceiling;
 use show_input::Got;
 use show_pages::pages;
 use show_refusals::ground_messages;
@@ -26,6 +28,7 @@ fn explain(
     path: &[u8],
     file: &[u8],
     refusal: Refusal,
+    ceiling: u32,
 ) {
     let a = pages::put_all(page, 0, b"ground: ");
     if refusal.number == resolve_taking::WRONG_CONTEXT {
@@ -34,7 +37,16 @@ fn explain(
         let d = context_messages::put_wrong(page, c, block, lists, file);
         return show_input::write_message(page, d);
     }
-    let b = ground_messages::put_fault(page, a, text, block, lists, refusal.number, refusal.place);
+    let b = ground_messages::put_fault(
+        page,
+        a,
+        text,
+        block,
+        lists,
+        refusal.number,
+        refusal.place,
+        ceiling,
+    );
     show_input::write_message(page, b)
 }
 
@@ -62,7 +74,9 @@ fn warn(
 }
 
 // The answer about a text in a context. The page has room for 2,048 effects and 257 notes in words, which is more than anything else has.
-fn answer(asked: Asked, text: &[u8], block: &[u8], lists: &[u32], path: &[u8], file: &[u8]) {
+fn answer(wish: Wish, text: &[u8], block: &[u8], lists: &[u32], path: &[u8], file: &[u8]) {
+    let asked = wish.asked;
+    let ceiling = wish.ceiling;
     let mut page = [0; 262144];
     let mut ground = io::large_buffer();
     let mut effects = [[0; 5]; 2048];
@@ -78,12 +92,14 @@ fn answer(asked: Asked, text: &[u8], block: &[u8], lists: &[u32], path: &[u8], f
         &mut notes,
         &mut work,
         &mut page,
-        64,
+        ceiling,
     );
     show_input::write_page(b"ground: ", &page, lines.count);
     let answer = lines.answer;
     match answer {
-        Resolved::Refused(refusal) => explain(&mut page, text, block, lists, path, file, refusal),
+        Resolved::Refused(refusal) => {
+            explain(&mut page, text, block, lists, path, file, refusal, ceiling)
+        }
         Resolved::Lengths(n) => {
             ground_files::tell_unasked(asked, &mut page, text, &notes, n.notes);
             let m = within::effects(n.effects, &effects);
@@ -93,7 +109,7 @@ fn answer(asked: Asked, text: &[u8], block: &[u8], lists: &[u32], path: &[u8], f
 }
 
 // The answer about a text, where the context's file was read.
-fn answer_context(asked: Asked, text: &[u8], path: &[u8], file: &[u8]) {
+fn answer_context(wish: Wish, text: &[u8], path: &[u8], file: &[u8]) {
     let mut block = io::large_buffer();
     let mut run = [0; 66000];
     let taken = context_file::read_context(file, &mut block, &mut run);
@@ -102,11 +118,11 @@ fn answer_context(asked: Asked, text: &[u8], path: &[u8], file: &[u8]) {
     }
     let bytes = pages::within(taken.bytes, &block);
     let numbers = within::numbers(taken.numbers, &run);
-    answer(asked, text, &block[..bytes], &run[..numbers], path, file)
+    answer(wish, text, &block[..bytes], &run[..numbers], path, file)
 }
 
 // A file that fills its buffer may go on beyond it.
-fn answer_file(asked: Asked, text: &[u8], path: &[u8], file: &[u8], length: usize) {
+fn answer_file(wish: Wish, text: &[u8], path: &[u8], file: &[u8], length: usize) {
     if file.len() <= length {
         show_input::tell_failed(b"ground: ");
         io::write_all(2, path);
@@ -114,22 +130,22 @@ fn answer_file(asked: Asked, text: &[u8], path: &[u8], file: &[u8], length: usiz
         return;
     }
     let n = pages::within(length, file);
-    answer_context(asked, text, path, &file[..n])
+    answer_context(wish, text, path, &file[..n])
 }
 
 // Where the text was read: its bytes, in the context of a file.
-fn answer_text(asked: Asked, text: &[u8], got: Got, path: &[u8], file: &[u8], length: usize) {
+fn answer_text(wish: Wish, text: &[u8], got: Got, path: &[u8], file: &[u8], length: usize) {
     match got {
         Got::Failed => {}
         Got::Bytes(n) => {
             let whole = pages::within(n, text);
-            answer_file(asked, &text[..whole], path, file, length)
+            answer_file(wish, &text[..whole], path, file, length)
         }
     }
 }
 
 // The context's file, whose name is there, and then the text.
-fn answer_named(asked: Asked, path: &[u8], index: usize, count: usize) {
+fn answer_named(wish: Wish, path: &[u8], index: usize, count: usize) {
     let mut name = io::buffer();
     let mut file = io::large_buffer();
     let mut text = io::large_buffer();
@@ -137,29 +153,42 @@ fn answer_named(asked: Asked, path: &[u8], index: usize, count: usize) {
         Got::Failed => {}
         Got::Bytes(n) => {
             let got = ground_files::read_text(index, count, &mut name, &mut text);
-            answer_text(asked, &text, got, path, &file, n)
+            answer_text(wish, &text, got, path, &file, n)
         }
     }
 }
 
 // The name of the context's file is the argument at an index; at the next one the text's may follow.
-fn answer_arguments(asked: Asked, index: usize, count: usize, name: &mut [u8])
-    requires { ⌜ index ≤ 2 ⌝ }
-{
+fn answer_arguments(wish: Wish, count: usize, name: &mut [u8]) {
+    let index = wish.first;
+    if 4 < index {
+        return asked::usage();
+    }
     match show_input::argument(b"ground: ", index, name) {
         Got::Failed => {}
         Got::Bytes(n) => {
             let whole = pages::within(n, name);
-            answer_named(asked, &name[..whole], index + 1, count)
+            answer_named(wish, &name[..whole], index + 1, count)
         }
+    }
+}
+
+// What the words from an index on ask for, under a ceiling.
+fn answer_words(ceiling: u32, index: usize, name: &mut [u8]) {
+    let count = os::arg_count();
+    match asked::asked_for(ceiling, index, count, name) {
+        Wanted::Nothing => asked::usage(),
+        Wanted::Lines(wish) => answer_arguments(wish, count, name),
     }
 }
 
 fn main() {
     let mut name = io::buffer();
-    let count = os::arg_count();
-    match asked::asked_for(count, &mut name) {
-        Wanted::Nothing => asked::usage(),
-        Wanted::Lines(asked) => answer_arguments(asked, asked::first_file(asked), count, &mut name),
+    if show_input::is_word(1, &mut name, b"--version") {
+        return show_input::write_version(b"ground: ");
+    }
+    match show_input::ceiling_words(&mut name) {
+        Ceiling::Under(ceiling, index) => answer_words(ceiling, index, &mut name),
+        Ceiling::Wrong => asked::usage(),
     }
 }

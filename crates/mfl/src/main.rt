@@ -6,47 +6,48 @@ ghost use lib.ListN.{length};
 use print_render::Printed;
 use read_forms::Refusal;
 use read_profile::Profiled;
+use show_input::Ceiling;
 use show_input::Got;
 use show_pages::pages;
 use show_texts::profile_messages;
 use show_texts::text_messages;
 
-// What is asked about a text.
+// What is asked about a text, under a ceiling for counts.
 enum Asked {
-    Print,
-    Profile,
+    Print(u32),
+    Profile(u32),
 }
 
 // The message for a person: faults from 22 on are the profile's.
-fn explain(text: &[u8], page: &mut [u8], refusal: Refusal) {
+fn explain(text: &[u8], page: &mut [u8], refusal: Refusal, ceiling: u32) {
     let a = pages::put_all(page, 0, b"mfl: ");
     if refusal.number < read_profile::OUTSIDE_PROFILE {
-        let b = text_messages::put_fault(page, a, text, refusal.number, refusal.place);
+        let b = text_messages::put_fault(page, a, text, refusal.number, refusal.place, ceiling);
         return show_input::write_message(page, b);
     }
     let b = profile_messages::put_fault(page, a, text, refusal.number, refusal.place);
     show_input::write_message(page, b)
 }
 
-fn answer_print(text: &[u8], page: &mut [u8])
+fn answer_print(text: &[u8], page: &mut [u8], ceiling: u32)
     requires { ⌜ 16384 ≤ length (now page) ⌝ }
 {
-    let line = print_answers::print_line(text, page, 64);
+    let line = print_answers::print_line(text, page, ceiling);
     show_input::write_page(b"mfl: ", page, line.count);
     let answer = line.answer;
     match answer {
         Printed::Length(_) => {}
-        Printed::Refused(refusal) => explain(text, page, refusal),
+        Printed::Refused(refusal) => explain(text, page, refusal, ceiling),
     }
 }
 
-fn answer_profile(text: &[u8], page: &mut [u8]) {
-    let line = print_answers::profile_line(text, page, 64);
+fn answer_profile(text: &[u8], page: &mut [u8], ceiling: u32) {
+    let line = print_answers::profile_line(text, page, ceiling);
     show_input::write_page(b"mfl: ", page, line.count);
     let answer = line.answer;
     match answer {
         Profiled::Fits => {}
-        Profiled::Refused(refusal) => explain(text, page, refusal),
+        Profiled::Refused(refusal) => explain(text, page, refusal, ceiling),
     }
 }
 
@@ -54,8 +55,8 @@ fn answer(asked: Asked, text: &[u8], page: &mut [u8])
     requires { ⌜ 16384 ≤ length (now page) ⌝ }
 {
     match asked {
-        Asked::Print => answer_print(text, page),
-        Asked::Profile => answer_profile(text, page),
+        Asked::Print(ceiling) => answer_print(text, page, ceiling),
+        Asked::Profile(ceiling) => answer_profile(text, page, ceiling),
     }
 }
 
@@ -75,7 +76,7 @@ fn answer_got(asked: Asked, text: &[u8], got: Got, page: &mut [u8])
 fn usage() {
     io::write_all(
         2,
-        b"mfl: failed: usage: mfl [--profile] [FILE]\n  writes the canonical text of FILE, or of standard input, or `refused NUMBER PLACE`\n  --profile: writes `ok` where the text fits the PK-only profile, or `refused NUMBER PLACE`\n",
+        b"mfl: failed: usage: mfl [--ceiling N] [--profile] [FILE]\n  writes the canonical text of FILE, or of standard input, or `refused NUMBER PLACE`\n  --ceiling N: the largest count that the text may have, 64 otherwise\n  --profile: writes `ok` where the text fits the PK-only profile, or `refused NUMBER PLACE`\n  mfl --version: which product and which kit this is\n",
     );
 }
 
@@ -119,11 +120,17 @@ fn answer_named(asked: Asked, index: usize, name: &mut [u8], text: &mut [u8], pa
     }
 }
 
-// Whether the first argument asks for the profile.
-fn asks_profile(name: &mut [u8]) -> bool {
-    let n = os::arg(1, name);
-    let whole = pages::within(n, name);
-    labels::same_word(&name[..whole], b"--profile")
+// What the words from an index on ask for, under a ceiling.
+fn answer_words(ceiling: u32, index: usize, name: &mut [u8], text: &mut [u8], page: &mut [u8])
+    requires { ⌜ 16384 ≤ length (now page) ⌝ }
+{
+    if show_input::is_word(index, name, b"--profile") {
+        if 3 < index {
+            return usage();
+        }
+        return answer_named(Asked::Profile(ceiling), index + 1, name, text, page);
+    }
+    answer_named(Asked::Print(ceiling), index, name, text, page)
 }
 
 // The text's buffer holds more than the 16,384 bytes that a text may have: an input that is too long is refused, and not cut.
@@ -131,11 +138,13 @@ fn main() {
     let mut name = io::buffer();
     let mut text = io::large_buffer();
     let mut page = io::large_buffer();
-    if os::arg_count() < 2 {
-        return answer_input(Asked::Print, &mut text, &mut page);
+    if show_input::is_word(1, &mut name, b"--version") {
+        return show_input::write_version(b"mfl: ");
     }
-    if asks_profile(&mut name) {
-        return answer_named(Asked::Profile, 2, &mut name, &mut text, &mut page);
+    match show_input::ceiling_words(&mut name) {
+        Ceiling::Under(ceiling, index) => {
+            answer_words(ceiling, index, &mut name, &mut text, &mut page)
+        }
+        Ceiling::Wrong => usage(),
     }
-    answer_named(Asked::Print, 1, &mut name, &mut text, &mut page)
 }

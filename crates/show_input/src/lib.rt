@@ -2,6 +2,7 @@
 // taken up again. Every other failure is told on standard error: one of a descriptor that has nothing now (EAGAIN) too, for a proved loop has
 // to end and cannot wait. At a pipe that nobody reads (SIGPIPE) and past a limit of a file's size (SIGXFSZ) the system ends the process, unless
 // whoever started it said otherwise; then these are failures as any other.
+use counts::Counted;
 use show_pages::pages;
 ghost use Prim.Native.Nat.{_≤_};
 ghost use lib.ListN.{length};
@@ -195,4 +196,52 @@ pub fn write_page(program: &[u8], page: &[u8], count: usize) {
 pub fn write_message(page: &[u8], count: usize) {
     let n = pages::within(count, page);
     write_all(2, &page[..n]);
+}
+
+// What the words before the others ask for: a ceiling for counts, and the index of the word behind `--ceiling N`; or that N is no number.
+pub enum Ceiling {
+    Under(u32, usize),
+    Wrong,
+}
+
+// The ceiling where none is asked for: the source's limit.
+const CEILING: u32 = 64;
+
+// Whether the argument at an index is this word, ignoring case.
+pub fn is_word(index: usize, name: &mut [u8], word: &[u8]) -> bool {
+    if os::arg_count() <= index {
+        return false;
+    }
+    let n = os::arg(index, name);
+    let whole = pages::within(n, name);
+    labels::same_word(&name[..whole], word)
+}
+
+// The ceiling that a number says.
+fn ceiling_of(digits: &[u8]) -> Ceiling {
+    match counts::count_of(digits, u32::MAX) {
+        Counted::Count(value) => Ceiling::Under(value, 3),
+        Counted::Refused => Ceiling::Wrong,
+    }
+}
+
+// The ceiling that the first two arguments ask for.
+pub fn ceiling_words(name: &mut [u8]) -> Ceiling {
+    if is_word(1, name, b"--ceiling") {
+        if os::arg_count() <= 2 {
+            return Ceiling::Wrong;
+        }
+        let n = os::arg(2, name);
+        let whole = pages::within(n, name);
+        return ceiling_of(&name[..whole]);
+    }
+    Ceiling::Under(CEILING, 1)
+}
+
+// What `--version` writes: the product's line, and that of the kit by which it is proved.
+pub fn write_version(program: &[u8]) {
+    write_answer(
+        program,
+        b"dumachik 0.3\nrattle-kit-5b-plain logic 097e4c862dff5811\n",
+    )
 }

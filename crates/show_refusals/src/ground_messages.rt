@@ -86,9 +86,13 @@ pub fn put_fault(
     lists: &[u32],
     number: u8,
     place: usize,
+    ceiling: u32,
 ) -> usize {
     if number < 12 {
-        return text_messages::put_fault(page, len, text, number, place);
+        return text_messages::put_fault(page, len, text, number, place, ceiling);
+    }
+    if number == 21 {
+        return text_messages::put_fault(page, len, text, number, place, ceiling);
     }
     put_statement(page, len, text, block, lists, number, place)
 }

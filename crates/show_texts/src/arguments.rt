@@ -88,11 +88,7 @@ fn put_array(page: &mut [u8], len: usize, text: &[u8], token: Token, want: Wante
     }
     if takes_counts(want) {
         let n = put_word(page, len, text, after.at);
-        return pages::put_all(
-            page,
-            n,
-            b" is no count; this array has whole numbers from 0 to 64",
-        );
+        return pages::put_all(page, n, b" is no count; this array has whole numbers");
     }
     put_kind(page, len, text, token.start, want)
 }

@@ -159,8 +159,22 @@ fn put_keywords(page: &mut [u8], len: usize) -> usize {
     pages::put(page, m, b'\n')
 }
 
+// The counts that are accepted under a ceiling.
+fn put_counts(page: &mut [u8], len: usize, ceiling: u32) -> usize {
+    let a = pages::put_all(page, len, b"  accepted: whole numbers from 0 to ");
+    let b = pages::put_number(page, a, ceiling as usize);
+    pages::put(page, b, b'\n')
+}
+
 // What would have been accepted, on a line of its own.
-fn put_accepted(page: &mut [u8], len: usize, text: &[u8], number: u8, place: usize) -> usize {
+fn put_accepted(
+    page: &mut [u8],
+    len: usize,
+    text: &[u8],
+    number: u8,
+    place: usize,
+    ceiling: u32,
+) -> usize {
     match number {
         3 => expected::put_hint(page, len, text, place),
         2 => pages::put_all(
@@ -168,7 +182,7 @@ fn put_accepted(page: &mut [u8], len: usize, text: &[u8], number: u8, place: usi
             len,
             b"  accepted: words, numbers, ( ) [ ] , * + ? @ .. ; and comments from # on\n",
         ),
-        4 => pages::put_all(page, len, b"  accepted: whole numbers from 0 to 64\n"),
+        4 => put_counts(page, len, ceiling),
         6 => put_keywords(page, len),
         7 => pages::put_all(
             page,
@@ -188,8 +202,18 @@ fn put_length(page: &mut [u8], len: usize, text: &[u8]) -> usize {
     pages::put_all(page, c, b" bytes; a text has at most 16384\n")
 }
 
-// The fault of a text by its number and its place.
-pub fn put_fault(page: &mut [u8], len: usize, text: &[u8], number: u8, place: usize) -> usize {
+// The fault of a text by its number and its place, where counts have a ceiling.
+pub fn put_fault(
+    page: &mut [u8],
+    len: usize,
+    text: &[u8],
+    number: u8,
+    place: usize,
+    ceiling: u32,
+) -> usize {
+    if number == 21 {
+        return pages::put_all(page, len, b"a ceiling for counts is at most 256\n");
+    }
     if number == 1 {
         return put_length(page, len, text);
     }
@@ -197,5 +221,5 @@ pub fn put_fault(page: &mut [u8], len: usize, text: &[u8], number: u8, place: us
     let b = put_cause(page, a, text, number, place);
     let c = pages::put(page, b, b'\n');
     let d = places::put_marked(page, c, text, place);
-    put_accepted(page, d, text, number, place)
+    put_accepted(page, d, text, number, place, ceiling)
 }
