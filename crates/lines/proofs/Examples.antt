@@ -144,6 +144,8 @@ notes =
     ⟶ "statement 1, line 3: dropped, for its parameters stand for nothing in this model: iiv( @PD, EXP )\nstatement 2, line 3: dropped, for its parameters or its covariates stand for nothing in this model: Covariate?(@PD,*,lin)\nstatement 3, line 4: dropped, for its parameters stand for nothing in this model: IOV(@PD,[EXP , ADD])\n")
     ∷ ("COVARIATE(CL,WT,lin,+);IIV(@PD,EXP)"
     ⟶ "statement 1, line 1: dropped, for its parameters stand for nothing in this model: IIV(@PD,EXP)\nsome effects are additive (+): each adds to its parameter and is null where its coefficient is 0\n")
+    ∷ ("PERIPHERALS(1);covariance(iiv,CL)"
+    ⟶ "statement 1, line 1: dropped, for it has fewer than two parameters in this model: covariance(iiv,CL)\n")
     ∷ ("LAGTIME(ON)" ⟶ "")
     ∷ ("COVARIATE(CL,WT,lin);COVARIATE(CL,WT,exp)" ⟶ "refused 17 1\n")
     ∷ []
