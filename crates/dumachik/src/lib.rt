@@ -62,7 +62,14 @@ pub extern "C" fn mfl_print(text: &[u8], out: &mut [u8], ceiling: u32) -> u64
     ensures { λ r. ⌜ r ≡ word (lengthOf (fitting (length (now (out .entry))) (printText ceiling (now (text .entry))))) ⌝ }
     ensures { λ _. ⌜ now (out .exit) ≡ output (fitting (length (now (out .entry))) (printText ceiling (now (text .entry)))) (now (out .entry)) ⌝ }
 {
-    print_render::print_under(text, out, ceiling).word()
+    print_render::print_under(
+        text,
+        &tokens::CLASSES,
+        &labels::LABELS,
+        &labels::KEYWORDS,
+        out,
+        ceiling,
+    ).word()
 }
 
 // The PK-only profile: 0 where a text fits it.

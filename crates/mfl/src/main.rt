@@ -32,7 +32,14 @@ fn explain(text: &[u8], page: &mut [u8], refusal: Refusal, ceiling: u32) {
 fn answer_print(text: &[u8], page: &mut [u8], ceiling: u32)
     requires { ⌜ 16384 ≤ length (now page) ⌝ }
 {
-    let line = print_answers::print_line(text, page, ceiling);
+    let line = print_answers::print_line(
+        text,
+        &tokens::CLASSES,
+        &labels::LABELS,
+        &labels::KEYWORDS,
+        page,
+        ceiling,
+    );
     show_input::write_page(b"mfl: ", page, line.count);
     let answer = line.answer;
     match answer {

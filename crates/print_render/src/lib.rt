@@ -229,23 +229,34 @@ fn print_kept(
 
 // The canonical text of a text, or why it is refused: the text is read to know whether it is accepted, and again to print it. No form is kept,
 // so that it can be printed twice, the first time to measure it.
-fn print_twice(text: &[u8], out: &mut [u8], limit: u32) -> Printed
+fn print_twice(
+    text: &[u8],
+    classes: &Classes,
+    labels: &Labels,
+    keys: &Keywords,
+    out: &mut [u8],
+    limit: u32,
+) -> Printed
+    requires { ⌜ (now classes ≡ classTable) × (now labels ≡ labelTable) × (now keys ≡ keywordTable) ⌝ }
     ensures { λ r. ⌜ Answers (printText limit (now (text .entry))) (now (out .entry)) (now (out .exit)) (printedAs r) ⌝ }
 {
     match read_text::count_under(text, limit) {
         CountRead::Refused(r) => Printed::Refused(r),
-        CountRead::Count(_) => {
-            let classes = tokens::CLASSES;
-            let labels = labels::LABELS;
-            let keys = labels::KEYWORDS;
-            print_accepted(text, &classes, &labels, &keys, out, limit)
-        }
+        CountRead::Count(_) => print_accepted(text, classes, labels, keys, out, limit),
     }
 }
 
 // The canonical text of a text, or why it is refused. Nothing is written before it is known that the text is accepted and that the canonical
-// text has room.
-pub fn print_under(text: &[u8], out: &mut [u8], limit: u32) -> Printed
+// text has room. The tables are lent by whoever asks, so that no function that prints keeps one.
+pub fn print_under(
+    text: &[u8],
+    classes: &Classes,
+    labels: &Labels,
+    keys: &Keywords,
+    out: &mut [u8],
+    limit: u32,
+) -> Printed
+    requires { ⌜ (now classes ≡ classTable) × (now labels ≡ labelTable) × (now keys ≡ keywordTable) ⌝ }
     ensures { λ r. ⌜ Answers (printText limit (now (text .entry))) (now (out .entry)) (now (out .exit)) (printedAs r) ⌝ }
 {
     match read_forms::admit(text, limit) {
@@ -255,21 +266,11 @@ pub fn print_under(text: &[u8], out: &mut [u8], limit: u32) -> Printed
         Admission::Fine => {}
     }
     if out.len() < text.len() {
-        return print_twice(text, out, limit);
+        return print_twice(text, classes, labels, keys, out, limit);
     }
-    let classes = tokens::CLASSES;
-    let labels = labels::LABELS;
-    let keys = labels::KEYWORDS;
-    match print_kept(text, &classes, &labels, &keys, out, limit) {
+    match print_kept(text, classes, labels, keys, out, limit) {
         Kept::Length(n) => Printed::Length(n),
-        Kept::Refused(r) => Printed::Refused(read_statements::earliest(text, &classes, r)),
-        Kept::More => print_twice(text, out, limit),
+        Kept::Refused(r) => Printed::Refused(read_statements::earliest(text, classes, r)),
+        Kept::More => print_twice(text, classes, labels, keys, out, limit),
     }
-}
-
-// The canonical text of a text.
-pub fn print(text: &[u8], out: &mut [u8]) -> Printed
-    ensures { λ r. ⌜ Answers (printText 64 (now (text .entry))) (now (out .entry)) (now (out .exit)) (printedAs r) ⌝ }
-{
-    print_under(text, out, 64)
 }

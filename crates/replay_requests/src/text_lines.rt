@@ -60,7 +60,14 @@ fn put_canonical(out: &mut [u8], len: usize, page: &[u8], length: usize, empty: 
 // Print into so many bytes of the page. It is larger than any canonical text, so where it has fewer than are asked for the answer is the same.
 fn print_in(text: &[u8], page: &mut [u8], room: usize, ceiling: u32) -> Printed {
     let n = output::within(room, page);
-    print_render::print_under(text, &mut page[..n], ceiling)
+    print_render::print_under(
+        text,
+        &tokens::CLASSES,
+        &labels::LABELS,
+        &labels::KEYWORDS,
+        &mut page[..n],
+        ceiling,
+    )
 }
 
 fn answer_print(
@@ -86,7 +93,14 @@ pub fn put_written(out: &mut [u8], len: usize, page: &[u8], count: usize) -> usi
 
 fn answer_line(text: &[u8], ceiling: u32, out: &mut [u8], len: usize) -> usize {
     let mut page = io::large_buffer();
-    let line = print_answers::print_line(text, &mut page, ceiling);
+    let line = print_answers::print_line(
+        text,
+        &tokens::CLASSES,
+        &labels::LABELS,
+        &labels::KEYWORDS,
+        &mut page,
+        ceiling,
+    );
     put_written(out, len, &page, line.count)
 }
 

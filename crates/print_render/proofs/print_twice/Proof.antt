@@ -1,10 +1,7 @@
 -- `print_render::print_twice` meets its contract: what Count refuses is refused, and else the statements are printed. Assumes nothing.
-use mathlib.Core.Path.{refl, _∙_, ap, sym}
+use mathlib.Core.Path.{_∙_, ap, sym}
 use denote.Ref.{now}
 use borrow.Author.Needs.{needs}
-use Rattle.tokens.specs.Class.{classOf, classTable}
-use Rattle.labels.specs.Label.{labelsOf, keywords}
-use Rattle.labels.specs.Table.{labelTable, keywordTable}
 use Rattle.reading.specs.Read.{readText}
 use Rattle.read_text.specs.Answers.{countAs}
 use Rattle.reading_laws.proofs.Calls.{counted-accepted, counted-refused}
@@ -13,13 +10,13 @@ use Rattle.print_render.proofs.print_twice.Statement.{statement}
 use Rattle.print_render.proofs.print_twice.Tie as tie
 
 print-accepted-requires : tie.Need-print-accepted-requires
-unfolding classTable classOf labelTable labelsOf keywordTable keywords countAs
+unfolding countAs
 print-accepted-requires c κs =
-    let e = c .before .before .before .before in
+    let e = c .before in
     let d = e .before .before in
-    let a = d .before .before .before .args in
-    let x = counted-accepted 0 _ (readText (a .limit) (now (a .text))) (sym (d .count-under .ensures) ∙ ap countAs (e .enum-told .given .1)) in
-    (refl, refl, refl, record { statements = x .0; read = x .1 })
+    let s = d .before .before .before in
+    let x = counted-accepted 0 _ (readText (s .args .limit) (now (s .args .text))) (sym (d .count-under .ensures) ∙ ap countAs (e .enum-told .given .1)) in
+    (s .pre .0, s .pre .1, s .pre .2, record { statements = x .0; read = x .1 })
 
 returns : tie.Need-returns
 unfolding countAs
