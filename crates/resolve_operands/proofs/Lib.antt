@@ -3,3 +3,4 @@ pub mod Standing
 pub mod Sources
 pub mod Bringing
 pub mod Naming
+pub mod PlainLets

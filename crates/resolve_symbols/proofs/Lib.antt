@@ -4,3 +4,5 @@ pub mod Builtins
 pub mod Tests
 pub mod Brings
 pub mod Sources
+pub mod Passing
+pub mod Late

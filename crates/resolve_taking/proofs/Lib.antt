@@ -1,5 +1,6 @@
 pub mod Reading
 pub mod Gathering
+pub mod Citing
 pub mod Bringing
 pub mod Meaning
 pub mod Refusing
