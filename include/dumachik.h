@@ -43,8 +43,6 @@
  *   22  feature outside the PK-only profile                               the statement's index
  *   23  second statement of one of the profile's five features            the statement's index
  *   24  count above 10, against the profile                               the statement's index
- *   25  LET that cites itself or a later LET                              the statement's index
- *   26  symbol that expands to over 64 names                              the statement's index
  */
 #ifndef DUMACHIK_H
 #define DUMACHIK_H
@@ -117,8 +115,7 @@ uint64_t mfl_print(const uint8_t *text, size_t length, uint8_t *out, size_t room
  *   9   an argument that was left out
  *   10  the operator `*`, also where it is not written
  *   11  the operator `+`
- *   12  the values of a LET: how many, of each its kind (0 a word, 1 a number, 2 a symbol), the offset and the length of
- *       its name, which is without the `@`; sorted by offset
+ *   12  the values of a LET: how many, of each its kind (0 a word, 1 a number), its offset and its length, sorted by offset
  *
  * PERIPHERALS and TRANSITS have counts and modes (or 9); COVARIATE has parameters, covariates, modes and an operator; ALLOMETRY a name alone
  * and another (or 9); INDIRECTEFFECT modes twice; IIV and IOV parameters and modes; COVARIANCE modes and parameters; LET a name alone and

@@ -50,7 +50,7 @@ MEANINGS = {
     8: "number of arguments",
     9: "argument of a wrong kind, empty array, word in an array of counts, second argument after N, mandatory `*` effect",
     10: "unknown mode",
-    11: "any token but a separator after 256 statements; a 65th word, number or symbol in an array",
+    11: "any token but a separator after 256 statements; a 65th word or number in an array",
     12: "context not as it must be",
     13: "second LET of a key",
     14: "unknown symbol, or one whose template or block is missing",
@@ -64,11 +64,9 @@ MEANINGS = {
     22: "feature outside the PK-only profile",
     23: "second statement of a feature that the PK-only profile has once",
     24: "count above 10, the highest of the PK-only profile",
-    25: "LET that cites itself or a later LET",
-    26: "symbol that expands to over 64 names",
 }
 # Those whose place is the index of a statement, and those that have none but 0.
-OF_STATEMENTS = (13, 14, 15, 16, 17, 20, 22, 23, 24, 25, 26)
+OF_STATEMENTS = (13, 14, 15, 16, 17, 20, 22, 23, 24)
 OF_ALL = (1, 12, 18, 19, 21)
 
 # The kinds of declared covariates, by their numbers.
@@ -142,8 +140,7 @@ class Statement(NamedTuple):
     """A statement: its keyword, whether it has a `?`, and its arguments.
 
     Modes are `"*"` or a tuple of labels; counts a number, a range with both ends, a tuple of numbers or `"N"`; parameters and covariates
-    `"*"`, a Symbol, or a tuple of names; an operator `"*"` or `"+"`; what was left out None. LET has its name and a tuple of its
-    values, each a name or a Symbol.
+    `"*"`, a Symbol, or a tuple of names; an operator `"*"` or `"+"`; what was left out None. LET has its name and a tuple of its values.
     """
 
     keyword: str
@@ -291,8 +288,8 @@ def _argument(numbers, family, text):
         return text[offset : offset + length].decode("ascii")
 
     def value():
-        symbol = next(numbers) == 2  # 0 is a word, 1 a number
-        return Symbol(name()) if symbol else name()
+        next(numbers)  # whether it is a word or a number
+        return name()
 
     def listed(entry):
         return tuple(entry() for _ in range(next(numbers)))

@@ -31,19 +31,10 @@ impl Display for Statement {
         match self {
             Statement::Let { name, values } => {
                 write!(f, "LET({name},")?;
-                listed(f, values.iter())?;
+                listed(f, values.iter().map(Item::text))?;
                 f.write_str(")")
             }
             Statement::Feature(feature) => feature.fmt(f),
-        }
-    }
-}
-
-impl Display for Item {
-    fn fmt(&self, f: &mut Formatter<'_>) -> fmt::Result {
-        match self {
-            Item::Word(text) | Item::Number(text) => f.write_str(text),
-            Item::Symbol(name) => write!(f, "@{name}"),
         }
     }
 }

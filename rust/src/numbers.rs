@@ -137,7 +137,6 @@ impl Numbers<'_> {
         match self.next() {
             0 => Item::Word(self.name()),
             1 => Item::Number(self.name()),
-            2 => Item::Symbol(self.name()),
             other => panic!("{other} is no kind of a value"),
         }
     }

@@ -3,8 +3,8 @@
 use std::{error, fmt};
 
 /// A fault and its place: an offset in bytes of the text from zero; a statement's index for [`Fault::NoSuchStatement`], for the faults of
-/// resolving from [`Fault::SecondLet`] to [`Fault::ForcedTwice`], for those of the profile and for those of LETs that cite LETs, from
-/// [`Fault::OutsideProfile`] on ([`Refusal::statement`]); and 0 for the others.
+/// resolving from [`Fault::SecondLet`] to [`Fault::ForcedTwice`] and for those of the profile, from [`Fault::OutsideProfile`] on
+/// ([`Refusal::statement`]); and 0 for the others.
 #[derive(Debug, Clone, Copy, PartialEq, Eq, Hash)]
 pub struct Refusal {
     pub fault: Fault,
@@ -49,7 +49,7 @@ faults! {
     ArgumentNumber = 8, "number of arguments";
     WrongArgument = 9, "argument of a wrong kind, empty array, word in an array of counts, second argument after N, mandatory `*` effect";
     UnknownMode = 10, "unknown mode";
-    TooMany = 11, "any token but a separator after 256 statements; a 65th word, number or symbol in an array";
+    TooMany = 11, "any token but a separator after 256 statements; a 65th word or number in an array";
     WrongContext = 12, "context not as it must be";
     SecondLet = 13, "second LET of a key";
     UnknownSymbol = 14, "unknown symbol, or one whose template or block is missing";
@@ -63,8 +63,6 @@ faults! {
     OutsideProfile = 22, "feature outside the PK-only profile";
     SecondStatement = 23, "second statement of a feature that the PK-only profile has once";
     CountAboveTen = 24, "count above 10, the highest of the PK-only profile";
-    CitesLater = 25, "LET that cites itself or a later LET";
-    TooManyNames = 26, "symbol that expands to over 64 names";
 }
 
 impl Refusal {
@@ -75,7 +73,7 @@ impl Refusal {
 
     /// The index of the statement that is refused, where the place is one.
     pub fn statement(&self) -> Option<usize> {
-        (matches!(self.number(), 13..=17 | 20 | 22..=26)).then_some(self.place)
+        (matches!(self.number(), 13..=17 | 20 | 22..=24)).then_some(self.place)
     }
 
     /// The line and the column of the place in its text, both from 1, a column a byte. Only where the place is an offset.

@@ -16,15 +16,13 @@ pub enum Statement {
 pub enum Item {
     Word(String),
     Number(String),
-    /// `@NAME`, by its name without the `@`.
-    Symbol(String),
 }
 
 impl Item {
     /// The value without its kind.
     pub fn text(&self) -> &str {
         match self {
-            Item::Word(text) | Item::Number(text) | Item::Symbol(text) => text,
+            Item::Word(text) | Item::Number(text) => text,
         }
     }
 }

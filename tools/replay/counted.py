@@ -39,7 +39,7 @@ FAULTS = [
     ("TRANSITS(n, DEPOT)", 9, 12), ("TRANSITS([N])", 9, 9), ("COVARIATE(CL,WT,*)", 9, 16), ("COVARIATE(CL,WT,*,1)", 9, 16),
     ("COVARIATE(CL,WT,lin,1)", 9, 20), ("COVARIATE(1..2,WT,lin)", 9, 10), ("COVARIATE(CL,+,lin)", 9, 13), ("COVARIATE([],WT,lin)", 9, 10),
     ("ALLOMETRY(1)", 9, 10), ("ALLOMETRY([WT])", 9, 10), ("ALLOMETRY(WT,x)", 9, 13), ("ALLOMETRY(*,x)", 9, 10), ("IIV(+,EXP)", 9, 4),
-    ("COVARIANCE(IIV,+)", 9, 15), ("LET(A,*)", 9, 6), ("LET(A,[])", 9, 6), ("LET(A,+)", 9, 6), ("LET(A,1..2)", 9, 6),
+    ("COVARIANCE(IIV,+)", 9, 15), ("LET(A,*)", 9, 6), ("LET(A,@B)", 9, 6), ("LET(A,[])", 9, 6), ("LET(A,+)", 9, 6), ("LET(A,1..2)", 9, 6),
     # 10: an unknown mode
     ("ABSORPTION(MM)", 10, 11), ("ABSORPTION([FO,XX])", 10, 15), ("ABSORPTION([1])", 10, 12), ("LAGTIME?(NO)", 10, 9), ("IIV(CL,lin)", 10, 7),
     ("COVARIATE(CL,WT,EX)", 10, 16), ("INDIRECTEFFECT(*,FO)", 10, 17), ("PERIPHERALS(1,DEPOT)", 10, 14), ("COVARIANCE(IIVS,CL)", 10, 11),

@@ -72,10 +72,6 @@ examples =
     ∷ ("covariance?(*,@iiv)" ⟶ prints 1 "COVARIANCE?(*,@iiv)")
     ∷ ("iiv( * ,log);covariate?(*,*,pow)" ⟶ prints 2 "IIV(*,LOG);COVARIATE?(*,*,pow)")
     ∷ ("let(Pk,[CL]);LET(x,[1,y])" ⟶ prints 2 "LET(Pk,CL);LET(x,[1,y])")
-    -- document 02, P3: the `@` is kept, without the blanks behind it; one symbol stands bare, and no repeats go
-    ∷ ("let(Pk,[ @ cl ]);LET(x,@Pk)" ⟶ prints 2 "LET(Pk,@cl);LET(x,@Pk)")
-    ∷ ("LET(x,[@ Pk,Pk, 01,@Pk,@IIV])" ⟶ prints 1 "LET(x,[@Pk,Pk,01,@Pk,@IIV])")
-    ∷ ("LET(x,[Pk,@   Pk])" ⟶ prints 1 "LET(x,[Pk,@Pk])")
     ∷ []
 
 pub checked : map (λ e. outcome (readText 64 (bytes (e .text)))) examples ≡ map (λ e. e .comes-to) examples
@@ -119,8 +115,6 @@ numbered =
     ∷ ("ALLOMETRY(WT,70)" ⇒ 6 ∷ 0 ∷ 8 ∷ 10 ∷ 2 ∷ 8 ∷ 13 ∷ 2 ∷ [])
     ∷ ("IIV?(1,EXP)" ⇒ 11 ∷ 1 ∷ 7 ∷ 1 ∷ 5 ∷ 1 ∷ 1 ∷ 1 ∷ 0 ∷ [])
     ∷ ("LET(x,[1,y])" ⇒ 14 ∷ 0 ∷ 8 ∷ 4 ∷ 1 ∷ 12 ∷ 2 ∷ 1 ∷ 7 ∷ 1 ∷ 0 ∷ 9 ∷ 1 ∷ [])
-    ∷ ("LET(x,@yz)" ⇒ 14 ∷ 0 ∷ 8 ∷ 4 ∷ 1 ∷ 12 ∷ 1 ∷ 2 ∷ 7 ∷ 2 ∷ [])
-    ∷ ("LET(x,[y,@ yz,@y])" ⇒ 14 ∷ 0 ∷ 8 ∷ 4 ∷ 1 ∷ 12 ∷ 3 ∷ 0 ∷ 7 ∷ 1 ∷ 2 ∷ 11 ∷ 2 ∷ 2 ∷ 15 ∷ 1 ∷ [])
     ∷ []
 
 pub numbers-checked : map (λ e. numbersIn (readText 64 (bytes (e .source)))) numbered ≡ map (λ e. e .numbers ∷ []) numbered

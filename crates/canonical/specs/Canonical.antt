@@ -1,8 +1,7 @@
 -- Document 01, Printing: "Printing uses no spaces. Statements are joined by `;`, arguments by `,`. Keywords, with their `?`, and N are upper
 -- case, modes print their label, names and symbols stand as written, counts print without leading zeros. A list of one name or one mode
 -- prints bare; a list of counts keeps its brackets; a range is kept and printed as its two ends with `..`. Of the operators only `+`
--- prints." And document 02, P3: "Printing keeps the `@`, and a list of one `@NAME` prints bare." A statement is printed as tokens, and the
--- text is their bytes with nothing between them.
+-- prints." A statement is printed as tokens, and the text is their bytes with nothing between them.
 use Prim.Native.Nat.{ℕ}
 use Prim.Native.Char.{Char, code}
 use Prim.Native.String.{String}
@@ -17,10 +16,6 @@ use Rattle.labels.specs.declared.Family.{Family}
 use Rattle.labels.specs.Label.{labelsOf, keywords}
 use Rattle.reading.specs.Statement.{
   Name,
-  Kind,
-  aWord,
-  aNumber,
-  aSymbol,
   Item,
   Modes,
   allModes,
@@ -79,11 +74,8 @@ argumentShapes [] = []
 argumentShapes (a ∷ []) = a
 argumentShapes (a ∷ b ∷ cs) = a ++ sign "," ∷ argumentShapes (b ∷ cs)
 
-abbrev pub enclosed : List Shape → List Shape
-enclosed xs = sign "[" ∷ xs ++ sign "]" ∷ []
-
 abbrev pub bracketed : List Shape → List Shape
-bracketed xs = enclosed (entryShapes xs)
+bracketed xs = sign "[" ∷ entryShapes xs ++ sign "]" ∷ []
 
 -- "A list of one name or one mode prints bare"
 abbrev pub bareOne : List Shape → List Shape
@@ -112,20 +104,9 @@ abbrev pub operatorShapes : Operator → List (List Shape)
 operatorShapes multiply = []
 operatorShapes add = (sign "+" ∷ []) ∷ []
 
--- a value of a LET: a word or a number, and a symbol, of which "printing keeps the `@`"
-abbrev pub valueShapes : Kind → Name → List Shape
-valueShapes aWord n = nameShape n ∷ []
-valueShapes aNumber n = nameShape n ∷ []
-valueShapes aSymbol n = sign "@" ∷ word (n .spelling) ∷ []
-
-abbrev pub itemShapes : Item → List Shape
-itemShapes i = valueShapes (i .kind) (i .name)
-
--- the values of a LET: "a list of one `@NAME` prints bare", as one of one name does
-abbrev pub valuesShapes : List Item → List Shape
-valuesShapes [] = enclosed []
-valuesShapes (i ∷ []) = itemShapes i
-valuesShapes (i ∷ j ∷ js) = enclosed (argumentShapes (map itemShapes (i ∷ j ∷ js)))
+-- a word or a number of a LET
+abbrev pub itemShape : Item → Shape
+itemShape i = nameShape (i .name)
 
 -- what a part prints as: one argument, or none where it was left out
 abbrev pub partShapes : Part → List (List Shape)
@@ -134,7 +115,7 @@ partShapes (countsPart c) = countsShapes c ∷ []
 partShapes estimatedPart = (wordOf "N" ∷ []) ∷ []
 partShapes (operandPart p) = operandShapes p ∷ []
 partShapes (namePart n) = (nameShape n ∷ []) ∷ []
-partShapes (valuesPart is) = valuesShapes is ∷ []
+partShapes (valuesPart is) = bareOne (map itemShape is) ∷ []
 partShapes (operatorPart op) = operatorShapes op
 partShapes omitted = []
 

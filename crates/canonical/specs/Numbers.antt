@@ -14,8 +14,7 @@
 --   an argument that was left out              9
 --   the operator `*`                           10, also where it is not written
 --   the operator `+`                           11
---   the values of a LET                        12, how many, of each its kind (0 a word, 1 a number, 2 a symbol), the offset and the
---                                              length of its name, without the `@`
+--   the values of a LET                        12, how many, of each its kind (0 a word, 1 a number), its offset and its length
 use Prim.Native.Nat.{ℕ}
 use mathlib.Core.Bool.{Bool, true, false}
 use mathlib.Core.List.{List, [], _∷_, _++_}
@@ -25,7 +24,6 @@ use Rattle.reading.specs.Statement.{
   Kind,
   aWord,
   aNumber,
-  aSymbol,
   Item,
   Modes,
   allModes,
@@ -85,7 +83,6 @@ operandNumbers (names ns) = 7 ∷ length ns ∷ pairsNumbers ns
 abbrev pub kindNumber : Kind → ℕ
 kindNumber aWord = 0
 kindNumber aNumber = 1
-kindNumber aSymbol = 2
 
 abbrev pub itemNumbers : Item → List ℕ
 itemNumbers i = kindNumber (i .kind) ∷ pairNumbers (i .name)

@@ -64,7 +64,7 @@ use Rattle.canonical_laws.specs.Printed.{wordEntry, startsFeature, Again
 use Rattle.canonical_laws.proofs.Arguments.{plus-printed, single-printed}
 use Rattle.canonical_laws.proofs.Modes.{modes-again}
 use Rattle.canonical_laws.proofs.Counts.{counts-again}
-use Rattle.canonical_laws.proofs.Names.{operand-again, word-again, number-again}
+use Rattle.canonical_laws.proofs.Names.{operand-again, name-again}
 
 module _ {limit : ℕ} {k : List ℕ} {m : Bool} {f : Feature} where
   -- a call of one argument, and of two
@@ -143,10 +143,10 @@ parts-again limit (Covariate m ps cs es add) w e =
       means = simp (a .fact, b .fact, c .fact, effects-stand m es (c .arg) e);
     }
 parts-again limit (Allometry n none) w e =
-    one-again refl (word-again limit n (and-left (spelledAs aWord n) true e)) λ a h. simp h
+    one-again refl (name-again limit aWord n (and-left (spelledAs aWord n) true e)) λ a h. simp h
 parts-again limit (Allometry n (some r)) w e =
-    two-again refl (word-again limit n (and-left (spelledAs aWord n) (spelledAs aNumber r) e))
-    (number-again limit r (and-right (spelledAs aWord n) (spelledAs aNumber r) e)) λ a b h g. simp (h, g)
+    two-again refl (name-again limit aWord n (and-left (spelledAs aWord n) (spelledAs aNumber r) e))
+    (name-again limit aNumber r (and-right (spelledAs aWord n) (spelledAs aNumber r) e)) λ a b h g. simp (h, g)
 parts-again limit (DirectEffect ms) w e = one-again refl (modes-again limit PdMode ms (w .0)) λ a h. simp h
 parts-again limit (EffectComp ms) w e = one-again refl (modes-again limit PdMode ms (w .0)) λ a h. simp h
 parts-again limit (IndirectEffect ms ps) w e =

@@ -6,7 +6,7 @@ use mathlib.Core.List.{List, [], _∷_, _++_, map, map-map}
 use Rattle.tokens.specs.Token.{Shape, width, Tokens, _▸_}
 use Rattle.tokens.specs.Spelling.{spellAll}
 use Rattle.token_laws.specs.Join.{placed}
-use Rattle.reading.specs.Statement.{Name, Kind, aWord, aNumber, aSymbol, Item, Operand, everyone, symbol, names, Statement}
+use Rattle.reading.specs.Statement.{Operand, everyone, symbol, names, Statement}
 use Rattle.reading.specs.Parts.{
   Part,
   modesPart,
@@ -26,11 +26,7 @@ use Rattle.canonical.specs.Canonical.{
   nameShape,
   bareOne,
   operandShapes,
-  argumentShapes,
-  enclosed,
-  valueShapes,
-  itemShapes,
-  valuesShapes,
+  itemShape,
   partShapes,
   partsShapes,
   takenShapes,
@@ -46,27 +42,13 @@ module _ (to : ℕ → ℕ) where
   operand-stays (symbol n) = refl
   operand-stays (names ns) = ap bareOne (map-map nameShape (moveName to) ns)
 
-  value-stays : (k : Kind) (n : Name) → valueShapes k (moveName to n) ≡ valueShapes k n
-  value-stays aWord n = refl
-  value-stays aNumber n = refl
-  value-stays aSymbol n = refl
-
-  items-stay : (is : List Item) → map itemShapes (map (moveItem to) is) ≡ map itemShapes is
-  items-stay [] = refl
-  items-stay (i ∷ is) = simp (value-stays (i .kind) (i .name), items-stay is)
-
-  values-stay : (is : List Item) → valuesShapes (map (moveItem to) is) ≡ valuesShapes is
-  values-stay [] = refl
-  values-stay (i ∷ []) = value-stays (i .kind) (i .name)
-  values-stay (i ∷ j ∷ is) = ap (λ (l : List (List Shape)). enclosed (argumentShapes l)) (items-stay (i ∷ j ∷ is))
-
   part-stays : (p : Part) → partShapes (movePart to p) ≡ partShapes p
   part-stays (modesPart f ms) = refl
   part-stays (countsPart c) = refl
   part-stays estimatedPart = refl
   part-stays (operandPart p) = simp (operand-stays p)
   part-stays (namePart n) = refl
-  part-stays (valuesPart is) = simp (values-stay is)
+  part-stays (valuesPart is) = simp (map-map itemShape (moveItem to) is)
   part-stays (operatorPart op) = refl
   part-stays omitted = refl
 

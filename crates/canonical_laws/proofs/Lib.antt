@@ -10,7 +10,6 @@ pub mod Lists
 pub mod Modes
 pub mod Counts
 pub mod Names
-pub mod Values
 pub mod Features
 pub mod Statements
 pub mod Forgetting

@@ -1,4 +1,4 @@
--- Names are read again as they are written: parameters and covariates, and a name alone.
+-- Names are read again as they are written: parameters and covariates, a name alone, and the values of a LET.
 -- Assumes nothing.
 use Prim.Native.Nat.{ℕ}
 use mathlib.Core.Path.{_≡_, refl, ap}
@@ -7,15 +7,15 @@ use mathlib.Core.List.{List, [], _∷_, map}
 use Rattle.tokens.specs.Token.{word, number}
 use Rattle.tokens.specs.Spelling.{isWord, isNumber}
 use Rattle.token_laws.proofs.Spelled.{word-no-number}
-use Rattle.reading.specs.Statement.{Name, aWord, aNumber, Item, Operand, everyone, names}
+use Rattle.reading.specs.Statement.{Name, Kind, aWord, aNumber, Item, Operand, everyone, names}
 use Rattle.reading.specs.Statement as statement
 use Rattle.reading.specs.Answer.{accepted}
-use Rattle.reading.specs.Argument.{star, symbol, single, operandOf}
+use Rattle.reading.specs.Argument.{star, symbol, single, itemsOf, operandOf}
 use Rattle.reading.specs.Feature.{nameOf}
 use Rattle.reading.specs.Syntax.{name, itemAs}
-use Rattle.reading_laws.specs.Moved.{moveName, moveOperand}
-use Rattle.reading_laws.specs.WellFormed.{oneTo64, wellNamed, wellOperand}
-use Rattle.canonical.specs.Canonical.{nameShape, operandShapes}
+use Rattle.reading_laws.specs.Moved.{moveName, moveItem, moveOperand}
+use Rattle.reading_laws.specs.WellFormed.{oneTo64, spelledAs, wellNamed, wellItem, wellOperand}
+use Rattle.canonical.specs.Canonical.{nameShape, itemShape, bareOne, operandShapes}
 use Rattle.canonical_laws.specs.Forgotten.{nowhere}
 use Rattle.canonical_laws.specs.Printed.{Entry, wordEntry, numberEntry, bareArg, Again}
 use Rattle.canonical_laws.proofs.Arguments.{star-printed, symbol-printed, single-printed}
@@ -37,11 +37,9 @@ name-entry n e = go (isNumber (n .spelling)) refl e
     go false h e = wordEntry (rw or-false at e)
 
 -- a name that is known to be a word, or a number
-word-entry : (n : Name) → isWord (n .spelling) ≡ true → Entry (nameShape n) (itemAs aWord 0 (n .spelling))
-word-entry n e = rw (word-no-number (n .spelling) e) (wordEntry e)
-
-number-entry : (n : Name) → isNumber (n .spelling) ≡ true → Entry (nameShape n) (itemAs aNumber 0 (n .spelling))
-number-entry n e = rw e (numberEntry e)
+kind-entry : (k : Kind) (n : Name) → spelledAs k n ≡ true → Entry (nameShape n) (itemAs k 0 (n .spelling))
+kind-entry aWord n e = rw (word-no-number (n .spelling) e) (wordEntry e)
+kind-entry aNumber n e = rw e (numberEntry e)
 
 -- the names of entries are the names, without their places
 names-mean : (ns : List Name) → map (λ x. x .name) (map nameItem ns) ≡ map (moveName nowhere) ns
@@ -69,13 +67,31 @@ operand-again limit (names ns) e =
     }
 
 -- So is a word, or a number, alone.
-pub word-again :
-    (limit : ℕ) (n : Name) → isWord (n .spelling) ≡ true → Again limit (nameShape n ∷ []) (λ a. nameOf aWord a ≡ accepted (moveName nowhere n))
+pub name-again :
+    (limit : ℕ) (k : Kind) (n : Name)
+    → spelledAs k n ≡ true
+    → Again limit (nameShape n ∷ []) (λ a. nameOf k a ≡ accepted (moveName nowhere n))
 unfolding nameOf
-word-again limit n e = record { arg = single (itemAs aWord 0 (n .spelling)); printed = single-printed (word-entry n e); fact = refl }
+name-again limit aWord n e =
+    record { arg = single (itemAs aWord 0 (n .spelling)); printed = single-printed (kind-entry aWord n e); fact = refl }
+name-again limit aNumber n e =
+    record { arg = single (itemAs aNumber 0 (n .spelling)); printed = single-printed (kind-entry aNumber n e); fact = refl }
 
-pub number-again :
-    (limit : ℕ) (n : Name) → isNumber (n .spelling) ≡ true → Again limit (nameShape n ∷ []) (λ a. nameOf aNumber a ≡ accepted (moveName nowhere n))
-unfolding nameOf
-number-again limit n e =
-    record { arg = single (itemAs aNumber 0 (n .spelling)); printed = single-printed (number-entry n e); fact = refl }
+items-mean :
+    (is : List Item) → oneTo64 wellItem is ≡ true → itemsOf (bareArg (map (moveItem nowhere) is)) ≡ accepted (map (moveItem nowhere) is)
+unfolding itemsOf
+items-mean [] e = absurd (false≢true e)
+items-mean (i ∷ []) e = refl
+items-mean (i ∷ j ∷ is) e = refl
+
+-- And the values of a LET.
+pub items-again :
+    (limit : ℕ) (is : List Item)
+    → oneTo64 wellItem is ≡ true
+    → Again limit (bareOne (map itemShape is)) (λ a. itemsOf a ≡ accepted (map (moveItem nowhere) is))
+items-again limit is e =
+    record {
+      arg = bareArg (map (moveItem nowhere) is);
+      printed = bare-list-printed itemShape (moveItem nowhere) wellItem (λ i h. kind-entry (i .kind) (i .name) h) is e;
+      fact = items-mean is e;
+    }

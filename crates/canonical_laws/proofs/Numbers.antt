@@ -19,7 +19,6 @@ use Rattle.reading.specs.Statement.{
   Kind,
   aWord,
   aNumber,
-  aSymbol,
   Item,
   Modes,
   allModes,
@@ -276,7 +275,6 @@ module _ (limit : ℕ) where
         kind-small : (k : Kind) → isSmall (kindNumber k) ≡ true
         kind-small aWord = refl
         kind-small aNumber = refl
-        kind-small aSymbol = refl
 
     small-operand :
         {o : ℕ} (p : Operand) → wellOperand p ≡ true → StandIn text o (operandNames p) → all isSmall (operandNumbers p) ≡ true

@@ -20,7 +20,6 @@ use Rattle.reading.specs.Statement.{
   Kind,
   aWord,
   aNumber,
-  aSymbol,
   Item,
   Modes,
   allModes,
@@ -78,9 +77,9 @@ use Rattle.canonical.specs.Canonical.{
   nameShape,
   labelShape,
   countShape,
+  itemShape,
   bareOne,
   bracketed,
-  valuesShapes,
   partShapes,
   partsShapes,
   keywordAt,
@@ -88,15 +87,13 @@ use Rattle.canonical.specs.Canonical.{
   textShapes,
 }
 use Rattle.canonical.specs.Numbers.{partNumbers, partsNumbers, headNumbers, numbersOf, countedNumbers, allNumbersOf}
-use Rattle.canonical_laws.specs.Shorter.{widths, entryWidths, argumentWidths, statementWidths, itemWidth, itemWidths}
+use Rattle.canonical_laws.specs.Shorter.{widths, entryWidths, argumentWidths, statementWidths}
 use Rattle.canonical_laws.proofs.Lists.{each}
 use Rattle.canonical_laws.proofs.Numbers.{pairs-many, values-many, head-many}
 use Rattle.canonical_laws.proofs.ShorterLists.{
   spelled-length,
   name-shape-width,
   bracketed-width,
-  name-least,
-  values-least,
   argument-widths-append,
   call-shapes-least,
   text-shapes-width,
@@ -141,18 +138,12 @@ named-some (b ∷ bs) e = omega arith
 name-some : (n : Name) → wellNamed n ≡ true → 1 ≤ width (nameShape n)
 name-some n e = rw (name-shape-width n) (named-some (n .spelling) e)
 
-item-some : (i : Item) → wellItem i ≡ true → 1 ≤ itemWidth i
-item-some i e = omega (arith, go (i .kind) e, name-least (i .kind) (i .name))
+item-some : (i : Item) → wellItem i ≡ true → 1 ≤ width (itemShape i)
+item-some i e = rw (name-shape-width (i .name)) (go (i .kind) e)
   where
     go : (k : Kind) → spelledAs k (i .name) ≡ true → 1 ≤ length (i .name .spelling)
     go aWord e = word-some (i .name .spelling) e
     go aNumber e = number-some (i .name .spelling) e
-    go aSymbol e = word-some (i .name .spelling) e
-
-items-double : (is : List Item) → all wellItem is ≡ true → length is + length is ≤ itemWidths is
-items-double [] e = omega arith
-items-double (i ∷ is) e =
-    omega (arith, item-some i (and-left (wellItem i) (all wellItem is) e), items-double is (and-right (wellItem i) (all wellItem is) e))
 
 -- Arguments.
 
@@ -169,10 +160,10 @@ names-room (n ∷ ns) e =
 values-room :
     (is : List Item)
     → oneTo64 wellItem is ≡ true
-    → 2 + (length is + length is + length is) ≤ 2 * (widths (valuesShapes is) + 1) + 1
+    → 2 + (length is + length is + length is) ≤ 2 * (widths (bareOne (map itemShape is)) + 1) + 1
 values-room [] e = absurd (false≢true e)
 values-room (i ∷ is) e =
-    omega (arith, values-least (i ∷ is), items-double (i ∷ is) (each wellItem (i ∷ is) e))
+    omega (arith, bare-least (map itemShape (i ∷ is)), entries-double wellItem itemShape (i ∷ is) item-some (each wellItem (i ∷ is) e))
 
 part-room : (limit : ℕ) (p : Part) → wellPart limit p ≡ true → length (partNumbers p) ≤ 2 * argumentWidths (partShapes p) + 1
 part-room limit (modesPart f allModes) e = omega arith

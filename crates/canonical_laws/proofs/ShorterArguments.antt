@@ -2,7 +2,7 @@
 -- Assumes nothing.
 use Prim.Native.Nat.{ℕ, _+_, _≤_}
 use native.Mathlib.Omega.{arith}
-use mathlib.Core.Path.{_≡_, ap}
+use mathlib.Core.Path.{_≡_, refl, ap}
 use mathlib.Core.Bool.{Bool, true, false, cond}
 use mathlib.Core.List.{List, [], _∷_, map}
 use mathlib.Core.Option.{some}
@@ -23,16 +23,16 @@ use Rattle.reading.specs.Argument.{Arg, star, plus, symbol, single, range, arra
 use Rattle.reading.specs.Feature.{isN}
 use Rattle.reading_laws.specs.Taken.{IsMode, IsCount, aCount, EachTaken, noneTaken, oneTaken, RangeTaken, fromTo, TakenAs}
 use Rattle.reading_laws.specs.Taken as taken
-use Rattle.canonical.specs.Canonical.{nameShape, labelShape, countShape, partShapes}
+use Rattle.canonical.specs.Canonical.{nameShape, itemShape, labelShape, countShape, partShapes}
 use Rattle.canonical_laws.specs.Shorter.{entryWidths, argumentWidths, nameWidth, itemWidths, argWidth}
-use Rattle.canonical_laws.proofs.ShorterLists.{name-shape-width, bracketed-width, bare-one-width, name-least, item-shapes-width, values-width}
+use Rattle.canonical_laws.proofs.ShorterLists.{name-shape-width, bracketed-width, bare-one-width}
 
 -- Names.
 
--- an array's names are no longer than its items
-names-width : (is : List Item) → entryWidths (map nameShape (map (λ x. x .name) is)) ≤ itemWidths is
-names-width [] = omega arith
-names-width (i ∷ is) = omega (arith, name-shape-width (i .name), name-least (i .kind) (i .name), names-width is)
+-- an array's names are printed as its items are
+names-width : (is : List Item) → entryWidths (map nameShape (map (λ x. x .name) is)) ≡ itemWidths is
+names-width [] = refl
+names-width (i ∷ is) = simp (names-width is)
 
 -- Modes.
 
@@ -51,7 +51,7 @@ taken-shorter :
     → EachTaken R is ms
     → entryWidths (map g ms) ≤ itemWidths is
 taken-shorter g h noneTaken = omega arith
-taken-shorter g h (oneTaken {i} {m} r t) = omega (arith, h (i .name) m r, taken-shorter g h t, name-least (i .kind) (i .name))
+taken-shorter g h (oneTaken {i} {m} r t) = omega (arith, h (i .name) m r, taken-shorter g h t, name-shape-width (i .name))
 
 mode-shorter : (f : Family) (n : Name) (m : ℕ) → IsMode f n m → width (labelShape f m) ≤ nameWidth n
 mode-shorter f n m e = omega (arith, label-length (n .spelling) (labelsOf f) m e)
@@ -89,7 +89,7 @@ n-width : (a : Arg) → isN a ≡ true → 1 ≤ argWidth a
 n-width (star o) e = omega arith
 n-width (plus o) e = omega arith
 n-width (symbol o n) e = omega arith
-n-width (single i) e = omega (arith, same-length (i .name .spelling) (bytes "N") e, name-least (i .kind) (i .name))
+n-width (single i) e = omega (arith, same-length (i .name .spelling) (bytes "N") e)
 n-width (range o a b) e = omega arith
 n-width (array o is) e = omega arith
 
@@ -110,10 +110,9 @@ part-shorter {limit} (taken.someCounts {vs} t) =
 part-shorter (taken.anN {a} e) = (omega arith, omega (arith, n-width a e))
 part-shorter taken.everyName = (omega arith, omega arith)
 part-shorter taken.aSymbol = (omega arith, omega arith)
-part-shorter (taken.oneName {i}) = (omega arith, omega (arith, name-shape-width (i .name), name-least (i .kind) (i .name)))
+part-shorter (taken.oneName {i}) = (omega arith, omega (arith, name-shape-width (i .name)))
 part-shorter (taken.someNames {i} {is}) =
     (omega arith, omega (arith, bare-one-width (map nameShape (map (λ x. x .name) (i ∷ is))), names-width (i ∷ is)))
-part-shorter (taken.aName {i}) = (omega arith, omega (arith, name-shape-width (i .name), name-least (i .kind) (i .name)))
-part-shorter (taken.oneValue {i}) = (omega arith, omega (arith, item-shapes-width i))
-part-shorter taken.symbolValue = (omega arith, omega arith)
-part-shorter (taken.someValues {i} {is}) = (omega arith, omega (arith, values-width (i ∷ is)))
+part-shorter (taken.aName {i}) = (omega arith, omega (arith, name-shape-width (i .name)))
+part-shorter (taken.oneValue {i}) = (omega arith, omega (arith, name-shape-width (i .name)))
+part-shorter (taken.someValues {i} {is}) = (omega arith, omega (arith, bare-one-width (map itemShape (i ∷ is))))

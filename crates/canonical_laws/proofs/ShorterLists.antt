@@ -4,12 +4,12 @@ use Prim.Native.Nat.{ℕ, _+_, _-_, _≤_}
 use native.Mathlib.Omega.{arith}
 use mathlib.Core.Path.{_≡_, refl}
 use mathlib.Core.Bool.{Bool, true, false, cond}
-use mathlib.Core.List.{List, [], _∷_, _++_, map}
+use mathlib.Core.List.{List, [], _∷_, _++_}
 use lib.ListN.{length, length-append}
 use Rattle.text.specs.Bytes.{is}
 use Rattle.tokens.specs.Token.{Shape, word, number, mark, width}
 use Rattle.tokens.specs.Spelling.{isNumber, spell, spellAll}
-use Rattle.reading.specs.Statement.{Name, Kind, aWord, aNumber, aSymbol, Item, Statement}
+use Rattle.reading.specs.Statement.{Name, Statement}
 use Rattle.canonical.specs.Canonical.{
   sign,
   nameShape,
@@ -17,9 +17,6 @@ use Rattle.canonical.specs.Canonical.{
   argumentShapes,
   bracketed,
   bareOne,
-  valueShapes,
-  itemShapes,
-  valuesShapes,
   questionMark,
   callShapes,
   statementShapes,
@@ -33,9 +30,6 @@ use Rattle.canonical_laws.specs.Shorter.{
   callWidth,
   statementWidths,
   nameWidth,
-  valueWidth,
-  itemWidth,
-  itemWidths,
   inBrackets,
 }
 
@@ -90,40 +84,6 @@ argument-shapes-width [] = refl
 argument-shapes-width (a ∷ []) = omega arith
 argument-shapes-width (a ∷ b ∷ cs) =
     omega (arith, widths-append a (sign "," ∷ argumentShapes (b ∷ cs)), argument-shapes-width (b ∷ cs))
-
--- The values of a LET are printed as they are written: one alone without brackets.
-value-width : (k : Kind) (n : Name) → widths (valueShapes k n) ≡ valueWidth k n
-value-width aWord n = omega (arith, name-shape-width n)
-value-width aNumber n = omega (arith, name-shape-width n)
-value-width aSymbol n = omega arith
-
--- an item is no shorter than its name
-pub name-least : (k : Kind) (n : Name) → nameWidth n ≤ valueWidth k n
-name-least aWord n = omega arith
-name-least aNumber n = omega arith
-name-least aSymbol n = omega arith
-
-pub item-shapes-width : (i : Item) → widths (itemShapes i) ≡ itemWidth i
-item-shapes-width i = value-width (i .kind) (i .name)
-
-items-width : (is : List Item) → argumentWidths (map itemShapes is) ≡ itemWidths is
-items-width [] = refl
-items-width (i ∷ is) = omega (arith, item-shapes-width i, items-width is)
-
-values-in-brackets : (i j : Item) (is : List Item) → widths (valuesShapes (i ∷ j ∷ is)) ≡ inBrackets (itemWidths (i ∷ j ∷ is))
-values-in-brackets i j is =
-    let args = map itemShapes (i ∷ j ∷ is) in
-    omega (arith, widths-append (argumentShapes args) (sign "]" ∷ []), argument-shapes-width args, items-width (i ∷ j ∷ is))
-
-pub values-width : (is : List Item) → widths (valuesShapes is) ≤ inBrackets (itemWidths is)
-values-width [] = omega arith
-values-width (i ∷ []) = omega (arith, item-shapes-width i)
-values-width (i ∷ j ∷ is) = omega (arith, values-in-brackets i j is)
-
-pub values-least : (is : List Item) → itemWidths is ≤ widths (valuesShapes is) + 1
-values-least [] = omega arith
-values-least (i ∷ []) = omega (arith, item-shapes-width i)
-values-least (i ∷ j ∷ is) = omega (arith, values-in-brackets i j is)
 
 pub argument-widths-append : (xs ys : List (List Shape)) → argumentWidths (xs ++ ys) ≡ argumentWidths xs + argumentWidths ys
 argument-widths-append [] ys = omega arith

@@ -5,20 +5,21 @@ use Prim.Native.Nat.{ℕ, _+_, _≤_}
 use native.Mathlib.Omega.{arith}
 use mathlib.Core.Path.{_≡_}
 use mathlib.Core.Bool.{Bool, true, false, cond}
-use mathlib.Core.List.{List, [], _∷_, _++_}
+use mathlib.Core.List.{List, [], _∷_, _++_, map}
+use lib.ListN.{length}
 use Rattle.text.specs.Bytes.{bytes, is}
 use Rattle.tokens.specs.Token.{Shape, mark, width}
 use Rattle.labels.specs.Label.{keywords}
-use Rattle.reading.specs.Statement.{Name, Kind, aWord, aNumber, aSymbol, Item, Statement, Let}
+use Rattle.reading.specs.Statement.{Name, Kind, aWord, aNumber, Item, Statement, Let}
 use Rattle.reading.specs.Parts.{partsOf}
 use Rattle.reading.specs.Argument.{Arg}
-use Rattle.reading.specs.Syntax.{State, Step, more, made, name, itemAs, opened, turn}
+use Rattle.reading.specs.Syntax.{State, Step, more, made, itemAs, name, opened, turn}
 use Rattle.reading_laws.specs.Turned.{goes, makes, halts, Opened, Turned}
 use Rattle.reading_laws.specs.Turned as case
 use Rattle.reading_laws.proofs.Giving.{value-given}
 use Rattle.reading_laws.proofs.Turning.{opening, turning}
-use Rattle.canonical.specs.Canonical.{nameShape, valuesShapes, statementShapes}
-use Rattle.canonical_laws.specs.Shorter.{widths, nameWidth, valueWidth, itemWidths, argWidth, argWidths, stateWidth, Within}
+use Rattle.canonical.specs.Canonical.{nameShape, bareOne, itemShape, statementShapes}
+use Rattle.canonical_laws.specs.Shorter.{widths, nameWidth, itemWidths, argWidth, argWidths, stateWidth, Within}
 use Rattle.canonical_laws.proofs.ShorterLists.{name-shape-width, call-shapes-width}
 use Rattle.canonical_laws.proofs.ShorterArguments.{same-length, range-shorter, part-shorter}
 use Rattle.canonical_laws.proofs.ShorterFeatures.{build-shorter}
@@ -41,8 +42,8 @@ mark-width m = go (is "." m)
 -- one more item, and one more argument
 items-more :
     (items : List Item) (k : Kind) (o : ℕ) (w : List ℕ)
-    → itemWidths (items ++ itemAs k o w ∷ []) ≡ itemWidths items + valueWidth k (name o w) + 1
-items-more [] k o w = omega arith
+    → itemWidths (items ++ itemAs k o w ∷ []) ≡ itemWidths items + length w + 1
+items-more [] k o w = omega (arith, name-shape-width (name o w))
 items-more (i ∷ items) k o w = omega (arith, items-more items k o w)
 
 args-more : (args : List Arg) (a : Arg) → argWidths (args ++ a ∷ []) ≡ argWidths args + argWidth a + 1
@@ -52,10 +53,10 @@ args-more (b ∷ bs) a = omega (arith, args-more bs a)
 -- a LET
 let-width :
     (n : Name) (items : List Item)
-    → widths (statementShapes (Let n items)) ≡ 5 + nameWidth n + widths (valuesShapes items) + 1
+    → widths (statementShapes (Let n items)) ≡ 5 + nameWidth n + widths (bareOne (map itemShape items)) + 1
 unfolding statementShapes partsOf keywords
 let-width n items =
-    let args = (nameShape n ∷ []) ∷ valuesShapes items ∷ [] in
+    let args = (nameShape n ∷ []) ∷ bareOne (map itemShape items) ∷ [] in
     omega (arith, name-shape-width n, call-shapes-width (bytes "LET") false args (omega arith))
 
 opened-as-within : {o : ℕ} {x : Shape} {y : Step} → Opened o x y → Within (width x) y
@@ -82,14 +83,11 @@ turned-within case.aSymbol = on (omega arith)
 turned-within (case.aNumberAlone t) = turned-within t
 turned-within (case.points {m} e) = on (simp e (omega arith))
 turned-within (case.aRange t) = on (omega (arith, range-shorter t))
-turned-within case.firstWord = on (omega arith)
-turned-within case.firstNumber = on (omega arith)
+turned-within (case.firstWord {o} {w}) = on (omega (arith, name-shape-width (name o w)))
+turned-within (case.firstNumber {o} {w}) = on (omega (arith, name-shape-width (name o w)))
 turned-within (case.emptyArray {m}) = on (omega (arith, mark-width m))
 turned-within (case.nextWord {o} {items} {w} few) = on (omega (arith, items-more items aWord o w))
 turned-within (case.nextNumber {o} {items} {w} few) = on (omega (arith, items-more items aNumber o w))
-turned-within (case.firstAt {m}) = on (omega (arith, mark-width m))
-turned-within (case.nextAt {m}) = on (omega (arith, mark-width m))
-turned-within (case.itemSymbol {o} {items} {w} few) = on (omega (arith, items-more items aSymbol o w))
 turned-within (case.itemComma {m}) = on (omega (arith, mark-width m))
 turned-within (case.anArray {m}) = on (omega (arith, mark-width m))
 turned-within (case.argumentComma {args} {a} {m}) = on (omega (arith, args-more args a, mark-width m))

@@ -16,19 +16,20 @@ use Rattle.token_laws.proofs.Spelled.{word-no-number}
 use Rattle.text.proofs.Tests.{and-left, and-right}
 use Rattle.labels.specs.Word.{sameWord}
 use Rattle.labels.specs.Label.{keywords}
-use Rattle.reading.specs.Statement.{Name, Item, Feature, Statement, Let, feature}
+use Rattle.reading.specs.Statement.{Name, aWord, Item, Feature, Statement, Let, feature}
 use Rattle.reading.specs.Parts.{featureParts, partsOf}
 use Rattle.reading.specs.Answer.{accepted}
 use Rattle.reading.specs.Argument.{Arg}
 use Rattle.reading.specs.Feature.{buildFeature}
-use Rattle.reading.specs.Syntax.{featureCall, argument, name, opened, featureMade, letMade, closed, turn}
+use Rattle.reading.specs.Syntax.{featureCall, letCall, argument, name, opened, featureMade, letMade, closed, turn}
 use Rattle.reading.specs.Read.{between, ended, inside, prepend, onward, readFrom}
 use Rattle.reading_laws.specs.WellFormed.{oneTo64, wellItem, wellFeature, wellFormed}
 use Rattle.canonical.specs.Canonical.{
   sign,
   nameShape,
   argumentShapes,
-  valuesShapes,
+  bareOne,
+  itemShape,
   partsShapes,
   questionMark,
   callShapes,
@@ -40,8 +41,7 @@ use Rattle.canonical.specs.Canonical.{
 use Rattle.canonical_laws.specs.Forgotten.{forget, flat}
 use Rattle.canonical_laws.specs.Printed.{Spelled, PrintedAll, lastly, before}
 use Rattle.canonical_laws.proofs.Spelled.{none-spelled, one-spelled, sign-spelled, arguments-spelled}
-use Rattle.canonical_laws.proofs.Names.{word-again}
-use Rattle.canonical_laws.proofs.Values.{values-again}
+use Rattle.canonical_laws.proofs.Names.{name-again, items-again}
 use Rattle.canonical_laws.proofs.Features.{feature-again}
 
 -- a call: its keyword, its `?`, and its arguments in parentheses
@@ -61,8 +61,8 @@ pub statement-spelled : (limit : ℕ) (s : Statement) → wellFormed limit s ≡
 unfolding statementShapes partsOf keywords classOf
 statement-spelled limit (Let n is) e =
     call-spelled false refl
-    (sign-spelled "," (word-again limit n (and-left (isWord (n .spelling)) (oneTo64 wellItem is) e) .printed .spelled) refl
-    (values-again limit is (and-right (isWord (n .spelling)) (oneTo64 wellItem is) e) .spelled))
+    (sign-spelled "," (name-again limit aWord n (and-left (isWord (n .spelling)) (oneTo64 wellItem is) e) .printed .spelled) refl
+    (items-again limit is (and-right (isWord (n .spelling)) (oneTo64 wellItem is) e) .printed .spelled))
 statement-spelled limit (feature f) e =
     let p = feature-again limit f e in
     call-spelled (featureParts f .optional) (and-left (isWord (keywordAt (featureParts f .keyword))) _ (p .starts))
@@ -136,15 +136,15 @@ let-read :
     → oneTo64 wellItem is ≡ true
     → n < 256
     → readFrom limit 0 n between
-    (flat (callShapes (bytes "LET") false ((nameShape x ∷ []) ∷ valuesShapes is ∷ []) ++ rest))
+    (flat (callShapes (bytes "LET") false ((nameShape x ∷ []) ∷ bareOne (map itemShape is) ∷ []) ++ rest))
     ≡ prepend (forget (Let x is)) (readFrom limit 0 (suc n) ended (flat rest))
 unfolding readFrom turn opened closed letMade sameWord
 let-read limit n x is rest w e h =
-    let p = values-again limit is e in
+    let p = items-again limit is e in
     ap (λ (l : List Shape). readFrom limit 0 n between (flat l))
-    (call-then (bytes "LET") false ((nameShape x ∷ []) ∷ valuesShapes is ∷ []) rest)
+    (call-then (bytes "LET") false ((nameShape x ∷ []) ∷ bareOne (map itemShape is) ∷ []) rest)
     ∙ simp (lt-leb 256 n h, word-no-number (x .spelling) w)
-    (p .read n (name 0 (x .spelling)) 41 rest refl ∙ simp (p .fact))
+    (p .printed .read n (letCall (name 0 (x .spelling))) 41 rest refl ∙ simp (p .fact))
 
 -- A well formed statement is read again from its tokens, and what comes after it is read as what comes after a statement.
 statement-read :

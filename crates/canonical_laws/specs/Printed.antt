@@ -8,11 +8,11 @@ use Rattle.tokens.specs.Token.{Shape, word, number, mark}
 use Rattle.tokens.specs.Spelling.{isWord, isNumber, isShape, apart}
 use Rattle.text.specs.Lists.{all}
 use Rattle.labels.specs.Word.{sameWord}
-use Rattle.reading.specs.Statement.{Name, aWord, aNumber, Item, Feature}
+use Rattle.reading.specs.Statement.{aWord, aNumber, Item, Feature}
 use Rattle.reading.specs.Answer.{accepted}
 use Rattle.reading.specs.Argument.{Arg, single, array}
 use Rattle.reading.specs.Feature.{buildFeature}
-use Rattle.reading.specs.Syntax.{Call, letCall, argument, argumentRead, name, itemAs}
+use Rattle.reading.specs.Syntax.{Call, argument, argumentRead, name, itemAs}
 use Rattle.reading.specs.Read.{inside, readFrom}
 use Rattle.canonical_laws.specs.Forgotten.{flat}
 
@@ -49,17 +49,6 @@ pub record Printed (limit : ℕ) (xs : List Shape) (a : Arg) : Type 0 where
 pub record Again (limit : ℕ) (xs : List Shape) (Fact : Arg → Type 0) : Type 0 where
   pub arg : Arg
   pub printed : Printed limit xs arg
-  pub fact : Fact arg
-
--- The same of the values of a LET, behind its name: there an item may be a symbol.
-pub record AgainLet (limit : ℕ) (xs : List Shape) (Fact : Arg → Type 0) : Type 0 where
-  pub arg : Arg
-  pub spelled : Spelled xs
-  pub read :
-      (n : ℕ) (x : Name) (m : ℕ) (rest : List Shape)
-      → is "." m ≡ false
-      → readFrom limit 0 n (inside (argument (letCall x))) (flat (xs ++ mark m ∷ rest))
-      ≡ readFrom limit 0 n (inside (argumentRead (letCall x) arg)) (flat (mark m ∷ rest))
   pub fact : Fact arg
 
 -- One argument or more.

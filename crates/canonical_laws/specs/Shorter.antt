@@ -2,11 +2,11 @@
 -- least: what stands between tokens and leading zeros are not counted.
 use Prim.Native.Nat.{ℕ, _+_, _-_, _≤_}
 use mathlib.Core.Bool.{Bool, true, false}
-use mathlib.Core.List.{List, [], _∷_}
+use mathlib.Core.List.{List, [], _∷_, map}
 use lib.ListN.{length}
 use Rattle.tokens.specs.Token.{Shape, width, Tokens, finish, bad, _▸_}
 use Rattle.counts.specs.Decimal.{digitsOf}
-use Rattle.reading.specs.Statement.{Name, Kind, aWord, aNumber, aSymbol, Item, Statement}
+use Rattle.reading.specs.Statement.{Name, Item, Statement}
 use Rattle.reading.specs.Argument.{Arg, star, plus, symbol, single, range, array}
 use Rattle.reading.specs.Syntax.{
   Call,
@@ -24,14 +24,13 @@ use Rattle.reading.specs.Syntax.{
   rangeOpen,
   arrayOpen,
   item,
-  itemAt,
   itemRead,
   argumentRead,
   Step,
 }
 use Rattle.reading.specs.Read.{Where, between, ended, inside}
 use Rattle.reading_laws.specs.Turned.{Leads}
-use Rattle.canonical.specs.Canonical.{statementShapes}
+use Rattle.canonical.specs.Canonical.{itemShape, statementShapes}
 
 -- Tokens.
 
@@ -74,19 +73,9 @@ statementWidths (s ∷ ss) = 1 + widths (statementShapes s) + statementWidths ss
 abbrev pub nameWidth : Name → ℕ
 nameWidth n = length (n .spelling)
 
--- an item, with the `@` of a symbol
-abbrev pub valueWidth : Kind → Name → ℕ
-valueWidth aWord n = nameWidth n
-valueWidth aNumber n = nameWidth n
-valueWidth aSymbol n = 1 + nameWidth n
-
-abbrev pub itemWidth : Item → ℕ
-itemWidth i = valueWidth (i .kind) (i .name)
-
 -- an array's items with a `,` after each; brackets around what has a `,` after each, without the last
 abbrev pub itemWidths : List Item → ℕ
-itemWidths [] = 0
-itemWidths (i ∷ is) = itemWidth i + 1 + itemWidths is
+itemWidths is = entryWidths (map itemShape is)
 
 abbrev pub inBrackets : ℕ → ℕ
 inBrackets n = 2 + (n - 1)
@@ -96,7 +85,7 @@ abbrev pub argWidth : Arg → ℕ
 argWidth (star o) = 1
 argWidth (plus o) = 1
 argWidth (symbol o n) = 1 + nameWidth n
-argWidth (single i) = itemWidth i
+argWidth (single i) = nameWidth (i .name)
 argWidth (range o a b) = length (digitsOf a) + 2 + length (digitsOf b)
 argWidth (array o is) = inBrackets (itemWidths is)
 
@@ -122,7 +111,6 @@ stateWidth (numberRead c n) = openWidth c + nameWidth n
 stateWidth (rangeOpen c n) = openWidth c + nameWidth n + 2
 stateWidth (arrayOpen c p) = openWidth c + 1
 stateWidth (item c p is) = openWidth c + 1 + itemWidths is
-stateWidth (itemAt c p is q) = openWidth c + 1 + itemWidths is + 1
 stateWidth (itemRead c p is) = openWidth c + 1 + (itemWidths is - 1)
 stateWidth (argumentRead c a) = openWidth c + argWidth a
 

@@ -4,10 +4,10 @@
 -- n + m of A, newline, B, and Statement gives A's statements and then B's, with the offsets of their names and symbols raised by A's length
 -- and one.
 --
--- Reordering. Where Count accepts A and D, and Statement gives each statement of A as often as of D, and the LETs in one order, Resolve refuses
--- D in a context exactly when it refuses A, and else gives the same set of effects, whatever the buffers hold, if they have full size. The
--- statements are the same where the exported Statement gives equal numbers of them, each pair replaced by the bytes that it points to
--- (`same-values`); so D may as well be known to be a reordering of A by its numbers alone (`reordering-by-numbers`).
+-- Reordering. Where Count accepts A and D, and Statement gives each statement of A as often as of D, Resolve refuses D in a context exactly
+-- when it refuses A, and else gives the same set of effects, whatever the buffers hold, if they have full size. The statements are the same
+-- where the exported Statement gives equal numbers of them, each pair replaced by the bytes that it points to (`same-values`); so D may as well
+-- be known to be a reordering of A by its numbers alone (`reordering-by-numbers`).
 --
 -- Rereading. Where Resolve gives a ground text for A in a context, Count accepts it, Print gives its own bytes back, and Resolve gives of it in
 -- that context the same bytes and the same set of effects, with no note of reason 0.
@@ -27,7 +27,7 @@ use borrow.Author.Tests.{le-ltb}
 use lib.Dec.{ltb}
 use lib.ListN.{length, length-append, getElem?}
 use Rattle.text.specs.Bytes.{countUp}
-use Rattle.reading.specs.Statement.{Statement, Let, feature}
+use Rattle.reading.specs.Statement.{Statement}
 use Rattle.reading.specs.Answer.{Answer, accepted, refused, _>>=_}
 use Rattle.reading.specs.Read.{readText}
 use Rattle.reading_laws.specs.Spelled.{statementNames, textNames, StandIn}
@@ -39,7 +39,7 @@ use Rattle.numbers_statement.specs.Answers.{numbered}
 use Rattle.reading.specs.Calls.{counted, chosen, nthOf, counting, stating}
 use Rattle.read_values.specs.Calls.{Joined}
 use Rattle.read_values.proofs.Joining.{joined}
-use Rattle.text.specs.Lists.{keep, gather}
+use Rattle.text.specs.Lists.{gather}
 use Rattle.text.proofs.All.{All, finished, also, map-each}
 use Rattle.text.proofs.Permuted.{Permuted, map-permuted}
 use Rattle.text.proofs.Often.{permuted-often, often-permuted}
@@ -50,16 +50,16 @@ use Rattle.resolving.specs.Handed.{isRun, givenIn, resolveHanded}
 use Rattle.resolving.specs.Call.{workingLength, Lengths, exceeds, lengthsIn, roomFor, resolveCall}
 use Rattle.resolving_laws.specs.Alike.{Alike, both, neither}
 use Rattle.resolving_laws.specs.Claims as definitions
-use Rattle.resolving_laws.specs.Claims.{isLet, SameEffects}
+use Rattle.resolving_laws.specs.Claims.{SameEffects}
 use Rattle.reading.proofs.Answers.{not-refused, passed-test, bind-passed}
 use Rattle.resolving_laws.proofs.Texts.{reordered-alike, ground-text-kept}
 use Rattle.resolving_laws.proofs.SameLaws.{as-often-permuted, permuted-as-often}
 use Rattle.profiling.specs.Profile.{profileText}
 use Rattle.profiling.proofs.GroundPasses.{ground-passes}
-use Rattle.claims.specs.Values.{valueIn, isLetValue, sameValue}
+use Rattle.claims.specs.Values.{valueIn, sameValue}
 use Rattle.claims.specs.Claims.{fullSize, stated, statementsOf, SameStatements, ToldByNumbers, valued, valuesOf, SameValues, Reordered, Reread}
 use Rattle.claims.proofs.FullSize.{resolved-fits}
-use Rattle.claims.proofs.Values.{valueOf, let-value, value-spelled, value-forgets, statementFrom, from-value, value-equal, value-self}
+use Rattle.claims.proofs.Values.{valueOf, value-spelled, value-forgets, statementFrom, from-value, value-equal, value-self}
 
 pub joining :
     (limit : ℕ) (a b : List ℕ) (n m : ℕ)
@@ -128,7 +128,6 @@ same-statements limit a d s =
       first-read = x .read;
       second-read = y .read;
       as-often = λ t. rw (sym (statements-are limit a (s .first) x), sym (statements-are limit d (s .second) y)) (s .as-often t);
-      lets-in-order = rw (sym (statements-are limit a (s .first) x), sym (statements-are limit d (s .second) y)) (s .lets-in-order);
     }
 
 -- Values: the exported Statement's numbers with each pair replaced by its bytes are told by the statement without its places, and tell it.
@@ -180,29 +179,6 @@ valued-again : (ss : List Statement) → map valueOf (map forget ss) ≡ map val
 valued-again [] = refl
 valued-again (s ∷ ss) = ap₂ _∷_ (value-forgets s) (valued-again ss)
 
--- the LETs among them
-module _ {A B : Type 0} (p : B → Bool) (q : A → Bool) (f : A → B) (same : (x : A) → p (f x) ≡ q x) where
-  keep-map : (xs : List A) → keep p (map f xs) ≡ map f (keep q xs)
-  keep-map [] = refl
-  keep-map (x ∷ xs) = ap₂ (λ (t : Bool) (l : List B). cond t (f x ∷ l) l) (same x) (keep-map xs) ∙ by-test (q x)
-    where
-      by-test : (t : Bool) → cond t (f x ∷ map f (keep q xs)) (map f (keep q xs)) ≡ map f (cond t (x ∷ keep q xs) (keep q xs))
-      by-test true = refl
-      by-test false = refl
-
-abbrev letsOf : List Statement → List Statement
-letsOf ss = keep isLet ss
-
-lets-forgotten : (ss : List Statement) → keep isLet (map forget ss) ≡ map forget (letsOf ss)
-lets-forgotten ss = keep-map isLet isLet forget same ss
-  where
-    same : (s : Statement) → isLet (forget s) ≡ isLet s
-    same (Let n is) = refl
-    same (feature f) = refl
-
-lets-valued : (ss : List Statement) → keep isLetValue (map valueOf ss) ≡ map valueOf (letsOf ss)
-lets-valued ss = keep-map isLetValue isLet valueOf let-value ss
-
 pub values-same : (limit : ℕ) (a d : List ℕ) → SameValues limit a d → SameStatements limit a d
 values-same limit a d s =
     let x = counted-read limit a (s .first) (s .counts) in
@@ -218,16 +194,6 @@ values-same limit a d s =
       counts = s .counts;
       counts-too = s .counts-too;
       as-often = λ t. rw (statements-are limit a (s .first) x, statements-are limit d (s .second) y) (permuted-as-often q t);
-      lets-in-order =
-          rw (statements-are limit a (s .first) x, statements-are limit d (s .second) y)
-          (lets-forgotten (x .statements)
-          ∙ sym (told-again (letsOf (x .statements)))
-          ∙ ap (map statementFrom)
-          (sym (lets-valued (x .statements))
-          ∙ rw (sym (values-are limit a (s .first) x), sym (values-are limit d (s .second) y)) (s .lets-in-order)
-          ∙ lets-valued (y .statements))
-          ∙ told-again (letsOf (y .statements))
-          ∙ sym (lets-forgotten (y .statements)));
     }
 
 pub same-valued : (limit : ℕ) (a d : List ℕ) → SameStatements limit a d → SameValues limit a d
@@ -244,16 +210,6 @@ same-valued limit a d s =
       counts = s .counts;
       counts-too = s .counts-too;
       as-often = λ v. rw (values-are limit a (s .first) x, values-are limit d (s .second) y) (permuted-often sameValue value-equal value-self q v);
-      lets-in-order =
-          rw (values-are limit a (s .first) x, values-are limit d (s .second) y)
-          (lets-valued (x .statements)
-          ∙ sym (valued-again (letsOf (x .statements)))
-          ∙ ap (map valueOf)
-          (sym (lets-forgotten (x .statements))
-          ∙ rw (sym (statements-are limit a (s .first) x), sym (statements-are limit d (s .second) y)) (s .lets-in-order)
-          ∙ lets-forgotten (y .statements))
-          ∙ valued-again (letsOf (y .statements))
-          ∙ sym (lets-valued (y .statements)));
     }
 
 -- Resolve with buffers of full size.

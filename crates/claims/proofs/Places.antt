@@ -19,7 +19,7 @@ use Rattle.reading.specs.Read.{readScanned, readText}
 use Rattle.reading_laws.proofs.Within.{refused-within}
 use Rattle.canonical_laws.proofs.Rereading.{few-statements}
 use Rattle.resolving.specs.Context.{Context}
-use Rattle.resolving.specs.Symbols.{Definition, defines, lets, sameKey, cites, citesLate, lookUp}
+use Rattle.resolving.specs.Symbols.{defines, lets, sameKey, lookUp}
 use Rattle.resolving.specs.Brought.{Brought, bring, atIndex, eachFrom}
 use Rattle.resolving.specs.Merging.{effectsIn, overridden, bothForce, forcedAgain}
 use Rattle.resolving.specs.Resolve.{Resolved, groundText, outcome, atMostOnce, upTo, mergeAndGround, resolve}
@@ -47,21 +47,19 @@ module _ {A : Type 0} (m : ℕ) where
       by-test true = there {p = 0} (omega arith)
       by-test false = k
 
--- the first of a list, or one behind it
-first-or-later : (t : Bool) (o : Option ℕ) (n i : ℕ) → ((j : ℕ) → o ≡ some j → j < n) → cond t (some 0) (oneLater o) ≡ some i → i < suc n
-first-or-later true o n i k e = let z : _≡_ {A = ℕ} 0 i = cc in omega arith
-first-or-later false none n i k e = let z : _≡_ {A = ℕ} 0 1 = cc in absurd (omega arith)
-first-or-later false (some j) n i k e = let z : _≡_ {A = ℕ} (suc j) i = cc in omega (arith, k j refl)
-
--- one that clashes with an earlier one is one of the list, and so is a LET that cites itself or a later one
+-- one that clashes with an earlier one is one of the list
 again-within : {A : Type 0} (clash : A → A → Bool) (seen xs : List A) (i : ℕ) → againAfter clash seen xs ≡ some i → i < length xs
 again-within clash seen [] i e = let z : _≡_ {A = ℕ} 0 1 = cc in absurd (omega arith)
 again-within clash seen (x ∷ xs) i e =
-    first-or-later (any (λ y. clash y x) seen) (againAfter clash (x ∷ seen) xs) (length xs) i (again-within clash (x ∷ seen) xs) e
-
-late-within : (ds : List (Option Definition)) (i : ℕ) → citesLate ds ≡ some i → i < length ds
-late-within [] i e = let z : _≡_ {A = ℕ} 0 1 = cc in absurd (omega arith)
-late-within (d ∷ ds) i e = first-or-later (any (cites d) (d ∷ ds)) (citesLate ds) (length ds) i (late-within ds) e
+    by-cases (any (λ y. clash y x) seen) (againAfter clash (x ∷ seen) xs) refl e (again-within clash (x ∷ seen) xs)
+  where
+    by-cases : (t : Bool) (o : Option ℕ) → againAfter clash (x ∷ seen) xs ≡ o
+        → cond t (some 0) (oneLater o) ≡ some i
+        → ((j : ℕ) → againAfter clash (x ∷ seen) xs ≡ some j → j < length xs)
+        → i < suc (length xs)
+    by-cases true o q h k = let z : _≡_ {A = ℕ} 0 i = cc in omega arith
+    by-cases false none q h k = let z : _≡_ {A = ℕ} 0 1 = cc in absurd (omega arith)
+    by-cases false (some j) q h k = let z : _≡_ {A = ℕ} (suc j) i = cc in omega (arith, k j q)
 
 -- what is refused of a list is so at the index of one of it
 each-within : {A B : Type 0} (f : A → Answer B) (i : ℕ) (xs : List A) (k p : ℕ) → eachFrom f i xs ≡ refused k p → p < i + length xs
@@ -88,8 +86,7 @@ resolve-within : (c : Context) (ss : List Statement) → length ss ≤ 256 → A
 unfolding resolve
 resolve-within c ss few =
     once-within 16384 13 (again sameKey (lets ss)) _ (λ i e. omega (arith, again-within sameKey [] (lets ss) i e, length-map ss defines))
-    (once-within 16384 25 (citesLate (lets ss)) _ (λ i e. omega (arith, late-within (lets ss) i e, length-map ss defines))
-    (by-each (eachFrom (bring c (lookUp c (lets ss))) 0 ss) refl))
+    (by-each (eachFrom (bring c (lookUp c (lets ss))) 0 ss) refl)
   where
     by-each : (a : Answer (List Brought)) → eachFrom (bring c (lookUp c (lets ss))) 0 ss ≡ a → AtMost 16384 (a >>= mergeAndGround c)
     by-each (accepted bs) e = merging-within c bs (omega (arith, each-many _ 0 ss bs e))

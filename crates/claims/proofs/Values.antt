@@ -16,7 +16,6 @@ use Rattle.reading.specs.Statement.{
   Kind,
   aWord,
   aNumber,
-  aSymbol,
   Item,
   Modes,
   allModes,
@@ -77,12 +76,10 @@ use Rattle.canonical.specs.Numbers.{pairsNumbers, kindNumber, itemsNumbers, par
 use Rattle.canonical_laws.specs.Forgotten.{nowhere, forget}
 use Rattle.resolving.specs.Effects.{optionalNumber}
 use Rattle.resolving.specs.Ground.{isOptional}
-use Rattle.resolving_laws.specs.Claims.{isLet}
 use Rattle.resolving_laws.proofs.EffectLaws.{mark-back}
 use Rattle.resolving_laws.proofs.Entries.{bytes-equal, bytes-self}
 use Rattle.resolving_laws.proofs.SameLaws.{list-equal, list-self}
 use Rattle.claims.specs.Values.{
-  isLetValue,
   Entry,
   asNumber,
   asBytes,
@@ -236,25 +233,6 @@ parts-entries-moved : (ps : List Part) → partsEntries (map (movePart nowhere) 
 parts-entries-moved [] = refl
 parts-entries-moved (p ∷ ps) = ap₂ _++_ (part-moved p) (parts-entries-moved ps)
 
--- a LET is told by its keyword
-pub let-value : (s : Statement) → isLetValue (valueOf s) ≡ isLet s
-unfolding partsOf featureParts
-let-value (Let n is) = refl
-let-value (feature (Absorption ms)) = refl
-let-value (feature (Elimination ms)) = refl
-let-value (feature (Peripherals c ms)) = refl
-let-value (feature (Transits c ms)) = refl
-let-value (feature (Lagtime ms)) = refl
-let-value (feature (Covariate m ps cs es op)) = refl
-let-value (feature (Allometry n r)) = refl
-let-value (feature (DirectEffect ms)) = refl
-let-value (feature (EffectComp ms)) = refl
-let-value (feature (IndirectEffect ms ps)) = refl
-let-value (feature (Metabolite ms)) = refl
-let-value (feature (Iiv m ps es)) = refl
-let-value (feature (Iov m ps es)) = refl
-let-value (feature (Covariance m ls ps)) = refl
-
 pub value-forgets : (s : Statement) → valueOf (forget s) ≡ valueOf s
 value-forgets s =
     let p = partsOf s in
@@ -311,12 +289,9 @@ nameFrom v = (nameIn (entryAt 1 v), drop 2 v)
 someFrom : {A : Type 0} → (Value → A × Value) → Value → Option A
 someFrom from v = cond (eqb (kindIn v) 9) none (some (from v .0))
 
-kindFrom : ℕ → Kind
-kindFrom n = cond (eqb n 0) aWord (cond (eqb n 1) aNumber aSymbol)
-
 itemsFrom : ℕ → Value → List Item
 itemsFrom zero v = []
-itemsFrom (suc n) v = record { kind = kindFrom (kindIn v); name = nameIn (entryAt 1 v) } ∷ itemsFrom n (drop 2 v)
+itemsFrom (suc n) v = record { kind = cond (eqb (kindIn v) 0) aWord aNumber; name = nameIn (entryAt 1 v) } ∷ itemsFrom n (drop 2 v)
 
 pub statementFrom : Value → Statement
 statementFrom v =
@@ -401,11 +376,9 @@ unfolding someFrom nameFrom kindIn entryAt numberIn nameIn
 some-name-again none v = refl
 some-name-again (some n) v = refl
 
-kind-again : (k : Kind) → kindFrom (kindNumber k) ≡ k
-unfolding kindFrom
+kind-again : (k : Kind) → cond (eqb (kindNumber k) 0) aWord aNumber ≡ k
 kind-again aWord = refl
 kind-again aNumber = refl
-kind-again aSymbol = refl
 
 items-again : (is : List Item) (v : Value) → itemsFrom (length is) (itemsEntries is ++ v) ≡ map (moveItem nowhere) is
 unfolding itemsFrom kindIn entryAt numberIn nameIn

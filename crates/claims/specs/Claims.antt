@@ -3,9 +3,8 @@
 -- notes and the working length."
 --
 -- Joining: "A, newline, B read as A's statements and then B's with offsets raised by A's length and one" (`Joined`, of `read_values`).
--- Reordering: for "every accepted file D of A's statements in whatever order" that keeps A's LETs "in their own order" (document 02, P3) and
--- every context, D resolves exactly when A does, and to the same set of effects. The statements are compared by value (`SameStatements`), or by
--- the numbers of the exported Statement (`SameValues`).
+-- Reordering: for "every accepted file D of A's statements in whatever order" and every context, D resolves exactly when A does, and to the same
+-- set of effects. The statements are compared by value (`SameStatements`), or by the numbers of the exported Statement (`SameValues`).
 -- Rereading: "A's ground text, read and resolved with C again, gives its own bytes back with nothing dropped."
 use Prim.Native.Nat.{ℕ}
 use mathlib.Core.Path.{_≡_}
@@ -25,8 +24,8 @@ use Rattle.resolving.specs.Resolve.{Resolved, groundText}
 use Rattle.resolving.specs.Call.{Lengths, resolveCall}
 use Rattle.resolving_laws.specs.Alike.{Alike}
 use Rattle.resolving_laws.specs.Same.{occurrences}
-use Rattle.resolving_laws.specs.Claims.{isLet, SameEffects, isDropped}
-use Rattle.claims.specs.Values.{Value, valueIn, isLetValue, sameValue}
+use Rattle.resolving_laws.specs.Claims.{SameEffects, isDropped}
+use Rattle.claims.specs.Values.{Value, valueIn, sameValue}
 
 abbrev pub fullSize : Lengths
 fullSize = record { ground = 16384; effects = 2048; notes = 257 }
@@ -39,15 +38,13 @@ stated (refused n p) = []
 abbrev pub statementsOf : ℕ → List ℕ → ℕ → List Statement
 statementsOf limit text n = gather (λ i. stated (stating limit text i)) (countUp 0 n)
 
--- "Accepted: Count refuses nothing." "D has each as often as A." And document 02, P3: "reordering a file must from here on keep its LETs in
--- their own order".
+-- "Accepted: Count refuses nothing." "D has each as often as A."
 pub record SameStatements (limit : ℕ) (a d : List ℕ) : Type 0 where
   pub first : ℕ
   pub second : ℕ
   pub counts : counting limit a ≡ accepted first
   pub counts-too : counting limit d ≡ accepted second
   pub as-often : (s : Statement) → occurrences s (statementsOf limit a first) ≡ occurrences s (statementsOf limit d second)
-  pub lets-in-order : keep isLet (statementsOf limit a first) ≡ keep isLet (statementsOf limit d second)
 
 -- Two statements that Statement gives have equal numbers, each pair of which is replaced by the bytes it points to, exactly where they are equal
 -- without their places.
@@ -55,7 +52,7 @@ pub record ToldByNumbers (a d : List ℕ) (s t : Statement) : Type 0 where
   pub same : valueIn a (numbersOf s) ≡ valueIn d (numbersOf t) → forget s ≡ forget t
   pub equal : forget s ≡ forget t → valueIn a (numbersOf s) ≡ valueIn d (numbersOf t)
 
--- "D has each as often as A", of these numbers, and the LETs in their own order.
+-- "D has each as often as A", of these numbers.
 abbrev pub valued : List ℕ → Answer (List ℕ) → List Value
 valued text (accepted ns) = valueIn text ns ∷ []
 valued text (refused n p) = []
@@ -72,7 +69,6 @@ pub record SameValues (limit : ℕ) (a d : List ℕ) : Type 0 where
   pub counts : counting limit a ≡ accepted first
   pub counts-too : counting limit d ≡ accepted second
   pub as-often : (v : Value) → valueOccurrences v (valuesOf limit a first) ≡ valueOccurrences v (valuesOf limit d second)
-  pub lets-in-order : keep isLetValue (valuesOf limit a first) ≡ keep isLetValue (valuesOf limit d second)
 
 -- "Resolves: Resolve refuses nothing. Effects are compared as their five numbers, listing order ignored."
 abbrev pub Reordered : ℕ → List ℕ → List ℕ → ℕ → List ℕ → List ℕ → Type 0

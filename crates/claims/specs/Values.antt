@@ -63,12 +63,6 @@ replaced text (manyOf fs) (n ∷ ns) = asNumber n ∷ replaced text (these (repe
 abbrev pub valueIn : List ℕ → List ℕ → Value
 valueIn text ns = replaced text (these (aNumber ∷ aNumber ∷ [])) ns
 
--- a LET's: its keyword's number is 14
-abbrev pub isLetValue : Value → Bool
-isLetValue [] = false
-isLetValue (asNumber k ∷ v) = eqb k 14
-isLetValue (asBytes b ∷ v) = false
-
 -- Equal values.
 
 abbrev pub sameEntry : Entry → Entry → Bool

@@ -105,7 +105,6 @@ fn number_of(kind: Kind) -> usize
     match kind {
         Kind::Word => 0,
         Kind::Number => 1,
-        Kind::Symbol => 2,
     }
 }
 

@@ -11,8 +11,8 @@ use Rattle.tokens.specs.Token.{Shape, word, number}
 use Rattle.tokens.specs.Spelling.{isNumber, spell, spellAll}
 use Rattle.tokens.proofs.Spelling.{spell-append}
 use Rattle.reading.specs.Statement.{Name}
-use Rattle.canonical.specs.Canonical.{sign, nameShape, argumentShapes, entryShapes, enclosed, bracketed, bareOne}
-use Rattle.print_parts.specs.Parts.{bareAlone, behindEntry}
+use Rattle.canonical.specs.Canonical.{sign, nameShape, entryShapes, bracketed, bareOne}
+use Rattle.print_parts.specs.Parts.{behindEntry}
 
 -- one shape alone
 pub spell-one : (x : Shape) → spellAll (x ∷ []) ≡ spell x
@@ -26,9 +26,6 @@ spell-name n = either (isNumber (n .spelling))
     either true = refl
     either false = refl
 
-pub spell-alone : (n : Name) → spellAll (nameShape n ∷ []) ≡ n .spelling
-spell-alone n = spell-one (nameShape n) ∙ spell-name n
-
 -- what stands behind the last entry, and behind one before it
 pub behind-last : (left : ℕ) → left < 2 → behindEntry left ≡ []
 behind-last zero h = refl
@@ -41,34 +38,14 @@ behind-more (suc zero) h = absurd (omega arith)
 behind-more (suc (suc n)) h = refl
 
 -- the first entry of a list, what stands behind it, and the others
-pub piece-first :
-    (x : List Shape) (xs : List (List Shape))
-    → spellAll (argumentShapes (x ∷ xs)) ≡ spellAll x ++ (behindEntry (suc (length xs)) ++ spellAll (argumentShapes xs))
-piece-first x [] = sym (append-nil (spellAll x))
-piece-first x (y ∷ ys) = spell-append x (sign "," ∷ argumentShapes (y ∷ ys))
-
--- the same of entries of one shape each
 pub entry-first :
     (x : Shape) (xs : List Shape)
     → spellAll (entryShapes (x ∷ xs)) ≡ spell x ++ (behindEntry (suc (length xs)) ++ spellAll (entryShapes xs))
 entry-first x [] = refl
 entry-first x (y ∷ ys) = refl
 
-pub spell-enclosed : (xs : List Shape) → spellAll (enclosed xs) ≡ bytes "[" ++ (spellAll xs ++ bytes "]")
-spell-enclosed xs = ap (λ l. bytes "[" ++ l) (spell-append xs (sign "]" ∷ []))
-
 pub spell-bracketed : (xs : List Shape) → spellAll (bracketed xs) ≡ bytes "[" ++ (spellAll (entryShapes xs) ++ bytes "]")
-spell-bracketed xs = spell-enclosed (entryShapes xs)
-
-pub alone-bare : (xs : List (List Shape)) → length xs ≡ 1 → bareAlone xs ≡ argumentShapes xs
-alone-bare [] e = absurd (omega arith)
-alone-bare (x ∷ []) e = refl
-alone-bare (x ∷ y ∷ ys) e = absurd (omega arith)
-
-pub alone-more : (xs : List (List Shape)) → (length xs ≡ 1 → ⊥) → bareAlone xs ≡ enclosed (argumentShapes xs)
-alone-more [] n = refl
-alone-more (x ∷ []) n = absurd (n refl)
-alone-more (x ∷ y ∷ ys) n = refl
+spell-bracketed xs = ap (λ l. bytes "[" ++ l) (spell-append (entryShapes xs) (sign "]" ∷ []))
 
 pub bare-one : (xs : List Shape) → length xs ≡ 1 → bareOne xs ≡ entryShapes xs
 bare-one [] e = absurd (omega arith)

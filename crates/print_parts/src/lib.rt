@@ -5,32 +5,30 @@ ghost use Prim.Native.Nat.{suc};
 ghost use lib.ListN.{length};
 ghost use Rattle.read_packs.specs.Packs.{places};
 ghost use Rattle.tokens.specs.Class.{classTable};
-ghost use Rattle.tokens.specs.Spelling.{spellAll};
+ghost use Rattle.tokens.specs.Spelling.{spell, spellAll};
 ghost use Rattle.labels.specs.Table.{labelTable};
 ghost use Rattle.reading.specs.Statement.{range, symbol};
-ghost use Rattle.canonical.specs.Canonical.{labelShape, argumentShapes, entryShapes, enclosed, bareOne};
-ghost use Rattle.canonical.specs.Canonical.{modesShapes, countsShapes, operandShapes, valueShapes, valuesShapes};
-ghost use Rattle.read_forms.specs.Items.{nameIn, kindAs, itemsIn};
+ghost use Rattle.canonical.specs.Canonical.{labelShape, itemShape, entryShapes, bracketed, bareOne};
+ghost use Rattle.canonical.specs.Canonical.{modesShapes, countsShapes, operandShapes};
+ghost use Rattle.read_forms.specs.Items.{nameIn, itemsIn};
 ghost use Rattle.read_forms.specs.Forms.{modesIn, countsIn, operandIn};
 ghost use Rattle.read_forms.specs.Fits.{InText, Listed};
 ghost use Rattle.print_writing.specs.Written.{Room, Written};
 ghost use Rattle.read_parts.specs.Meaning.{OperandFits, CountsFit};
-ghost use Rattle.print_parts.specs.Parts.{shapesFor, piecesAs, bareAs, listAs, behindEntry};
+ghost use Rattle.print_parts.specs.Parts.{shapeAs, shapesAs, bareAs, listAs, behindEntry};
 use labels::Family;
 use labels::Labels;
 use read_forms::Counts;
 use read_forms::Items;
-use read_forms::Kind;
 use read_forms::Modes;
 use read_forms::Name;
 use read_forms::Operand;
 use tokens::Classes;
 
-// What an entry of a list is printed as: the name as it is written, its count, or a value of a LET, which may be a symbol.
+// What an entry of a list is printed as: the name as it is written, or its count.
 pub enum Entry {
     Name,
     Count,
-    Value,
 }
 
 // A name as it is written.
@@ -41,49 +39,14 @@ pub fn put_name(text: &[u8], name: Name, out: &mut [u8], at: usize) -> usize
     print_writing::put_all(out, at, read_forms::spelling(text, name))
 }
 
-// A symbol.
-fn put_symbol(text: &[u8], name: Name, out: &mut [u8], at: usize) -> usize
-    requires { ⌜ InText (now text) name × Room at (spellAll (operandShapes (symbol (nameIn (now text) name)))) ⌝ }
-    ensures { λ r. ⌜ Written (now (out .entry)) at
-        (spellAll (operandShapes (symbol (nameIn (now (text .entry)) name))))
-        (now (out .exit)) r ⌝ }
-{
-    let next = print_writing::put(out, at, b'@');
-    put_name(text, name, out, next)
-}
-
-// A value of a LET: a word or a number as it is written, a symbol behind its `@`.
-fn put_value(text: &[u8], kind: Kind, name: Name, out: &mut [u8], at: usize) -> usize
-    requires { ⌜ InText (now text) name × Room at (spellAll (valueShapes (kindAs kind) (nameIn (now text) name))) ⌝ }
-    ensures { λ r. ⌜ Written (now (out .entry)) at
-        (spellAll (valueShapes (kindAs kind) (nameIn (now (text .entry)) name)))
-        (now (out .exit)) r ⌝ }
-{
-    match kind {
-        Kind::Word => put_name(text, name, out, at),
-        Kind::Number => put_name(text, name, out, at),
-        Kind::Symbol => put_symbol(text, name, out, at),
-    }
-}
-
-// An entry of a list: a name, a count without leading zeros, or a value.
-fn put_entry(
-    text: &[u8],
-    entry: Entry,
-    kind: Kind,
-    name: Name,
-    out: &mut [u8],
-    at: usize,
-) -> usize
-    requires { ⌜ InText (now text) name × Room at (spellAll (shapesFor entry (kindAs kind) (nameIn (now text) name))) ⌝ }
-    ensures { λ r. ⌜ Written (now (out .entry)) at
-        (spellAll (shapesFor entry (kindAs kind) (nameIn (now (text .entry)) name)))
-        (now (out .exit)) r ⌝ }
+// An entry of a list: a name, or a count without leading zeros.
+fn put_entry(text: &[u8], entry: Entry, name: Name, out: &mut [u8], at: usize) -> usize
+    requires { ⌜ InText (now text) name × Room at (spell (shapeAs entry (nameIn (now text) name))) ⌝ }
+    ensures { λ r. ⌜ Written (now (out .entry)) at (spell (shapeAs entry (nameIn (now (text .entry)) name))) (now (out .exit)) r ⌝ }
 {
     match entry {
         Entry::Name => put_name(text, name, out, at),
         Entry::Count => print_writing::put_count(out, at, read_lists::count_or_0(text, name)),
-        Entry::Value => put_value(text, kind, name, out, at),
     }
 }
 
@@ -108,9 +71,9 @@ fn put_entries(
     at: usize,
 ) -> usize
     requires { ⌜ (now classes ≡ classTable) × Listed (now text) items
-        × Room at (spellAll (argumentShapes (piecesAs entry (itemsIn (now text) items)))) ⌝ }
+        × Room at (spellAll (entryShapes (shapesAs entry (itemsIn (now text) items)))) ⌝ }
     ensures { λ r. ⌜ Written (now (out .entry)) at
-        (spellAll (argumentShapes (piecesAs entry (itemsIn (now (text .entry)) items))))
+        (spellAll (entryShapes (shapesAs entry (itemsIn (now (text .entry)) items))))
         (now (out .exit)) r ⌝ }
 {
     let mut left = items.count;
@@ -118,8 +81,7 @@ fn put_entries(
     let mut next = at;
     while 0 < left {
         let here = read_checks::entry_at(text, classes, cur);
-        let kind = here.kind;
-        next = put_entry(text, entry, kind, here.name, out, next);
+        next = put_entry(text, entry, here.name, out, next);
         next = put_comma(out, next, left);
         cur = read_checks::after_entry(text, classes, here);
         left -= 1;
@@ -137,9 +99,9 @@ fn put_bracketed(
     at: usize,
 ) -> usize
     requires { ⌜ (now classes ≡ classTable) × Listed (now text) items
-        × Room at (spellAll (enclosed (argumentShapes (piecesAs entry (itemsIn (now text) items))))) ⌝ }
+        × Room at (spellAll (bracketed (shapesAs entry (itemsIn (now text) items)))) ⌝ }
     ensures { λ r. ⌜ Written (now (out .entry)) at
-        (spellAll (enclosed (argumentShapes (piecesAs entry (itemsIn (now (text .entry)) items)))))
+        (spellAll (bracketed (shapesAs entry (itemsIn (now (text .entry)) items))))
         (now (out .exit)) r ⌝ }
 {
     let first = print_writing::put(out, at, b'[');
@@ -147,18 +109,17 @@ fn put_bracketed(
     print_writing::put(out, last, b']')
 }
 
-// Whether a list is printed without its brackets: one name or one value, but never counts.
+// Whether a list is printed without its brackets: one name, but never counts.
 fn is_bare(entry: Entry, count: usize) -> bool
     ensures { λ r. ⌜ r ≡ bareAs entry count ⌝ }
 {
     match entry {
         Entry::Name => count == 1,
         Entry::Count => false,
-        Entry::Value => count == 1,
     }
 }
 
-// A list: one name or one value bare, all others in their brackets.
+// A list: one name bare, all others in their brackets.
 fn put_list(
     text: &[u8],
     classes: &Classes,
@@ -168,9 +129,9 @@ fn put_list(
     at: usize,
 ) -> usize
     requires { ⌜ (now classes ≡ classTable) × Listed (now text) items
-        × Room at (spellAll (listAs entry (piecesAs entry (itemsIn (now text) items)))) ⌝ }
+        × Room at (spellAll (listAs entry (shapesAs entry (itemsIn (now text) items)))) ⌝ }
     ensures { λ r. ⌜ Written (now (out .entry)) at
-        (spellAll (listAs entry (piecesAs entry (itemsIn (now (text .entry)) items))))
+        (spellAll (listAs entry (shapesAs entry (itemsIn (now (text .entry)) items))))
         (now (out .exit)) r ⌝ }
 {
     if is_bare(entry, items.count) {
@@ -179,15 +140,15 @@ fn put_list(
     put_bracketed(text, classes, entry, items, out, at)
 }
 
-// The values of a LET, bare if it is one.
-pub fn put_values(text: &[u8], classes: &Classes, items: Items, out: &mut [u8], at: usize) -> usize
+// A list of names, bare if it is one name.
+pub fn put_names(text: &[u8], classes: &Classes, items: Items, out: &mut [u8], at: usize) -> usize
     requires { ⌜ (now classes ≡ classTable) × Listed (now text) items
-        × Room at (spellAll (valuesShapes (itemsIn (now text) items))) ⌝ }
+        × Room at (spellAll (bareOne (map itemShape (itemsIn (now text) items)))) ⌝ }
     ensures { λ r. ⌜ Written (now (out .entry)) at
-        (spellAll (valuesShapes (itemsIn (now (text .entry)) items)))
+        (spellAll (bareOne (map itemShape (itemsIn (now (text .entry)) items))))
         (now (out .exit)) r ⌝ }
 {
-    put_list(text, classes, Entry::Value, items, out, at)
+    put_list(text, classes, Entry::Name, items, out, at)
 }
 
 // A range's two ends.
@@ -220,6 +181,17 @@ pub fn put_counts(
     }
 }
 
+// A symbol.
+fn put_symbol(text: &[u8], name: Name, out: &mut [u8], at: usize) -> usize
+    requires { ⌜ InText (now text) name × Room at (spellAll (operandShapes (symbol (nameIn (now text) name)))) ⌝ }
+    ensures { λ r. ⌜ Written (now (out .entry)) at
+        (spellAll (operandShapes (symbol (nameIn (now (text .entry)) name))))
+        (now (out .exit)) r ⌝ }
+{
+    let next = print_writing::put(out, at, b'@');
+    put_name(text, name, out, next)
+}
+
 // Parameters or covariates: `*`, a symbol behind its `@`, or names.
 pub fn put_operand(
     text: &[u8],
@@ -237,7 +209,7 @@ pub fn put_operand(
     match operand {
         Operand::Wildcard => print_writing::put(out, at, b'*'),
         Operand::Symbol(name) => put_symbol(text, name, out, at),
-        Operand::Names(items) => put_list(text, classes, Entry::Name, items, out, at),
+        Operand::Names(items) => put_names(text, classes, items, out, at),
     }
 }
 

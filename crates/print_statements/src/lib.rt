@@ -83,7 +83,7 @@ fn put_part(
         Part::N => print_writing::put(out, at, b'N'),
         Part::Operand(operand) => print_parts::put_operand(text, classes, operand, out, at),
         Part::Name(name) => print_parts::put_name(text, name, out, at),
-        Part::Values(items) => print_parts::put_values(text, classes, items, out, at),
+        Part::Values(items) => print_parts::put_names(text, classes, items, out, at),
         Part::Op(op) => put_operator(op, out, at),
     }
 }

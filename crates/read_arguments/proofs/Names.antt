@@ -1,19 +1,19 @@
 -- A token's bytes as a name: the name that the definition gives it, in the text, and the one entry of a list that starts with it.
 -- Assumes nothing.
-use mathlib.Core.Path.{_≡_, _∙_, ap, sym, subst}
+use mathlib.Core.Path.{_≡_, ap, sym, subst}
 use mathlib.Core.List.{List}
 use Prim.Native.Nat.{ℕ}
 use native.Mathlib.Omega.{arith}
 use Rattle.tokens.specs.declared.Token as lexer
-use Rattle.tokens.specs.Token.{Shape, word, number, mark, Tokens, _▸_}
-use Rattle.reading.specs.Statement.{aWord, aNumber, aSymbol}
+use Rattle.tokens.specs.Token.{Shape, word, number}
+use Rattle.reading.specs.Statement.{aWord, aNumber}
 use Rattle.reading.specs.Syntax.{name}
 use Rattle.read_forms.specs.declared.Name.{Name}
 use Rattle.read_forms.specs.Items.{nameIn, entryAhead, entries, listed}
 use Rattle.read_forms.specs.Fits.{InText, Stands}
 use Rattle.tokens.proofs.Steps.{token}
 use Rattle.tokens.proofs.Views.{part, Reads}
-use Rattle.read_arguments.specs.Answers.{nameOf, SignAt}
+use Rattle.read_arguments.specs.Answers.{nameOf}
 
 module _ (s : List ℕ) (t : lexer.Token) {n : Name} (e : n ≡ nameOf t) where
   -- the name of the definition
@@ -24,10 +24,10 @@ module _ (s : List ℕ) (t : lexer.Token) {n : Name} (e : n ≡ nameOf t) where
   in-text r = subst (InText s) (sym e) (omega (arith, r .wide, r .within))
 
   pub word-stands :
-      {o : ℕ} → Reads s o (token (t .start) (word (part s (t .start) (t .next .at)))) (t .next .at) → Stands s aWord (n .offset) n
+      {o : ℕ} → Reads s o (token (t .start) (word (part s (t .start) (t .next .at)))) (t .next .at) → Stands s aWord n
   unfolding entries listed entryAhead
   word-stands r =
-      subst (λ (m : Name). Stands s aWord (m .offset) m) (sym e)
+      subst (Stands s aWord) (sym e)
       (record {
         inside = omega (arith, r .wide, r .within);
         alone = ap (entries 1) (r .there);
@@ -35,24 +35,12 @@ module _ (s : List ℕ) (t : lexer.Token) {n : Name} (e : n ≡ nameOf t) where
       })
 
   pub number-stands :
-      {o : ℕ} → Reads s o (token (t .start) (number (part s (t .start) (t .next .at)))) (t .next .at) → Stands s aNumber (n .offset) n
+      {o : ℕ} → Reads s o (token (t .start) (number (part s (t .start) (t .next .at)))) (t .next .at) → Stands s aNumber n
   unfolding entries listed entryAhead
   number-stands r =
-      subst (λ (m : Name). Stands s aNumber (m .offset) m) (sym e)
+      subst (Stands s aNumber) (sym e)
       (record {
         inside = omega (arith, r .wide, r .within);
         alone = ap (entries 1) (r .there);
         one = ap (listed 1) (r .there);
-      })
-
-  -- the word behind the `@` of a symbol
-  pub symbol-stands :
-      {sign o : ℕ} → SignAt s sign sign o → Reads s o (token (t .start) (word (part s (t .start) (t .next .at)))) (t .next .at) → Stands s aSymbol sign n
-  unfolding entries listed entryAhead
-  symbol-stands {sign} a r =
-      subst (Stands s aSymbol sign) (sym e)
-      (record {
-        inside = omega (arith, r .wide, r .within);
-        alone = ap (entries 1) (a .tokens) ∙ ap (λ (ts : Tokens). entries 1 (token sign (mark 64) ▸ ts)) (r .tokens);
-        one = ap (listed 1) (a .tokens) ∙ ap (λ (ts : Tokens). listed 1 (token sign (mark 64) ▸ ts)) (r .tokens);
       })

@@ -1,20 +1,20 @@
 -- What the answers of the functions that read arguments mean: how the reading of the statement goes on from them.
 use Prim.Native.Nat.{ℕ, _-_, _<_, _≤_}
-use mathlib.Core.Bool.{Bool, true, cond}
-use mathlib.Core.List.{List, _++_}
+use mathlib.Core.Bool.{true, cond}
+use mathlib.Core.List.{List}
 use mathlib.Core.Path.{_≡_}
 use lib.Dec.{eqb}
 use lib.ListN.{length}
 use Rattle.tokens.specs.declared.Token as lexer
-use Rattle.tokens.specs.Token.{mark, Tokens, _▸_}
+use Rattle.tokens.specs.Token.{Tokens}
 use Rattle.reading.specs.Statement.{Item}
 use Rattle.reading.specs.Argument.{array}
 use Rattle.reading.specs.Argument as argument
-use Rattle.reading.specs.Syntax.{Call, isLetCall, State, Step, item, argumentRead, comma, closed, empty}
+use Rattle.reading.specs.Syntax.{Call, State, Step, item, argumentRead, comma, closed, empty}
 use Rattle.reading.specs.One.{One, halted, oneStep, readOne}
 use Rattle.read_forms.specs.declared.Name as form
 use Rattle.read_forms.specs.declared.Refusal.{Refusal}
-use Rattle.read_forms.specs.Items.{tokensFrom, entries, afterEntries, listed}
+use Rattle.read_forms.specs.Items.{tokensFrom, listed}
 use Rattle.read_forms.specs.Fits.{Fits}
 use Rattle.read_forms.specs.Forms.{argIn}
 use Rattle.read_arguments.specs.declared.ArgRead.{ArgRead}
@@ -42,11 +42,6 @@ refusalOf t = record { number = cond (eqb (t .kind) 2) 2 3; place = t .start }
 abbrev pub nameOf : lexer.Token → form.Name
 nameOf t = record { offset = t .start; length = t .next .at - t .start }
 
--- an `@` that is read from an offset on, where it stands, and the offset behind it
-pub record SignAt (s : List ℕ) (o sign n : ℕ) : Type 0 where
-  pub tokens : tokensFrom s o ≡ record { place = sign; shape = mark 64 } ▸ tokensFrom s n
-  pub further : o < n
-
 -- an argument, or a `)` in the place of one
 unfoldable pub argThen : ℕ → List ℕ → Call → ArgRead → One
 argThen limit s c (argRead.Arg a n) = readIn limit s (argumentRead c (argIn s a)) (n .at)
@@ -71,19 +66,11 @@ EntryFurther s o ts (entry.More n) = (o < n .at) × (n .at ≤ length s) × (ts 
 EntryFurther s o ts (entry.Done n) = (o < n .at) × (n .at ≤ length s)
 EntryFurther s o ts (entry.Refused r) = Unit {0}
 
--- the entry itself is one, and not the 65th
+-- the entry itself is a word or a number, and not the 65th
 unfoldable pub EntryListed : List ℕ → ℕ → ℕ → Entry → Type 0
 EntryListed s o count (entry.More n) = (listed 1 (tokensFrom s o) ≡ true) × (count < 64)
 EntryListed s o count (entry.Done n) = (listed 1 (tokensFrom s o) ≡ true) × (count < 64)
 EntryListed s o count (entry.Refused r) = Unit {0}
-
--- what is answered of an entry that is read from an offset on, in an array that has so many before it, of a LET or of a feature
-pub record EntryGives (s : List ℕ) (lets : Bool) (o count : ℕ) (r : Entry) : Type 0 where
-  pub same :
-      (limit : ℕ) (c : Call) (p : ℕ) (items : List Item) → isLetCall c ≡ lets → length items ≡ count
-      → readIn limit s (item c p items) o ≡ entryThen limit s c p (items ++ entries 1 (tokensFrom s o)) r
-  pub further : EntryFurther s o (afterEntries 1 (tokensFrom s o)) r
-  pub found : EntryListed s o count r
 
 -- what follows an argument
 unfoldable pub afterThen : ℕ → List ℕ → Call → argument.Arg → After → One

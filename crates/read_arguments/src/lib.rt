@@ -1,18 +1,17 @@
 // The arguments of a statement, read to its `)`. Each function's answer says how the reading of the statement goes on.
 ghost use mathlib.Core.Path.{_≡_};
-ghost use mathlib.Core.Bool.{true};
-ghost use mathlib.Core.List.{List};
+ghost use mathlib.Core.List.{List, _++_};
 ghost use Prim.Native.Nat.{ℕ, _≤_};
 ghost use lib.ListN.{length};
 ghost use Rattle.tokens.specs.Class.{classTable};
 ghost use Rattle.reading.specs.Statement.{Item, aNumber};
 ghost use Rattle.reading.specs.Argument.{rangeOf};
 ghost use Rattle.reading.specs.Argument.{Arg as Arg·spec};
-ghost use Rattle.reading.specs.Syntax.{Call, isLetCall, atSign, numberRead, arrayOpen, itemRead, argumentRead, rangeRead};
-ghost use Rattle.reading.specs.Syntax.{argument as argument·state};
-ghost use Rattle.read_forms.specs.Items.{tokensFrom, nameIn, rest};
+ghost use Rattle.reading.specs.Syntax.{Call, atSign, numberRead, arrayOpen, itemRead, argumentRead, rangeRead};
+ghost use Rattle.reading.specs.Syntax.{argument as argument·state, item as item·state};
+ghost use Rattle.read_forms.specs.Items.{tokensFrom, nameIn, entries, afterEntries, rest};
 ghost use Rattle.read_forms.specs.Fits.{InText, Stands};
-ghost use Rattle.read_arguments.specs.Answers.{readIn, stepIn, refusalOf, nameOf, SignAt, argThen, ArgFurther, entryThen, EntryFurther, EntryGives, afterThen, AfterFurther};
+ghost use Rattle.read_arguments.specs.Answers.{readIn, stepIn, refusalOf, nameOf, argThen, ArgFurther, entryThen, EntryFurther, EntryListed, afterThen, AfterFurther};
 use counts::Counted;
 use read_forms::Arg;
 use read_forms::Items;
@@ -72,7 +71,7 @@ pub fn named(token: Token) -> Name
 
 // The name behind an `@` that stands at `sign`.
 fn symbol(text: &[u8], classes: &Classes, sign: usize, cur: Cursor) -> ArgRead
-    requires { ⌜ (now classes ≡ classTable) × SignAt (now text) sign sign (cur .at) ⌝ }
+    requires { ⌜ now classes ≡ classTable ⌝ }
     ensures { λ r. ⌜ ((limit : ℕ) (c : Call) → readIn limit (now (text .entry)) (atSign c sign) (cur .at) ≡ argThen limit (now (text .entry)) c r) ⌝ }
     ensures { λ r. ⌜ ArgFurther (now (text .entry)) (cur .at) r ⌝ }
 {
@@ -125,7 +124,7 @@ fn range_of(text: &[u8], low: Name, high: Name, limit: u32, next: Cursor) -> Arg
 
 // A number, which a `..` and another may follow.
 fn number(text: &[u8], classes: &Classes, name: Name, cur: Cursor, limit: u32) -> ArgRead
-    requires { ⌜ (now classes ≡ classTable) × Stands (now text) aNumber (name .offset) name × (cur .at ≤ length (now text)) ⌝ }
+    requires { ⌜ (now classes ≡ classTable) × Stands (now text) aNumber name × (cur .at ≤ length (now text)) ⌝ }
     ensures { λ r. ⌜ ((c : Call) → readIn limit (now (text .entry)) (numberRead c (nameIn (now (text .entry)) name)) (cur .at) ≡ argThen limit (now (text .entry)) c r) ⌝ }
     ensures { λ r. ⌜ ArgFurther (now (text .entry)) (cur .at) r ⌝ }
 {
@@ -163,40 +162,22 @@ fn after_entry(text: &[u8], classes: &Classes, cur: Cursor) -> Entry
     Entry::Refused(unexpected(token))
 }
 
-// The name behind the `@` of an entry, and what stands behind it. The entry's place is that of its `@`.
-fn read_symbol(text: &[u8], classes: &Classes, sign: usize, cur: Cursor, count: usize) -> Entry
+// An entry of an array that has `count` before it, and what stands behind it.
+fn read_entry(text: &[u8], classes: &Classes, cur: Cursor, count: usize) -> Entry
     requires { ⌜ now classes ≡ classTable ⌝ }
-    ensures { λ r. ⌜ ((o : ℕ) → SignAt (now (text .entry)) o sign (cur .at) → EntryGives (now (text .entry)) true o count r) ⌝ }
-{
-    let token = cur.token(text, classes);
-    let next = token.next;
-    if token.kind != tokens::WORD {
-        return Entry::Refused(unexpected(token));
-    }
-    if 64 <= count {
-        return Entry::Refused(Refusal {
-            number: read_forms::TOO_MANY,
-            place: sign,
-        });
-    }
-    after_entry(text, classes, next)
-}
-
-// An entry of an array that has `count` before it, and what stands behind it. In a LET it may be a symbol.
-fn read_entry(text: &[u8], classes: &Classes, cur: Cursor, count: usize, symbols: bool) -> Entry
-    requires { ⌜ now classes ≡ classTable ⌝ }
-    ensures { λ r. ⌜ EntryGives (now (text .entry)) symbols (cur .at) count r ⌝ }
+    ensures { λ r. ⌜
+        ((limit : ℕ) (c : Call) (p : ℕ) (items : List Item)
+        → length items ≡ count
+        → readIn limit (now (text .entry)) (item·state c p items) (cur .at)
+        ≡ entryThen limit (now (text .entry)) c p (items ++ entries 1 (tokensFrom (now (text .entry)) (cur .at))) r)
+        ⌝ }
+    ensures { λ r. ⌜ EntryFurther (now (text .entry)) (cur .at) (afterEntries 1 (tokensFrom (now (text .entry)) (cur .at))) r ⌝ }
+    ensures { λ r. ⌜ EntryListed (now (text .entry)) (cur .at) count r ⌝ }
 {
     let token = cur.token(text, classes);
     let next = token.next;
     if tokens::NUMBER < token.kind {
-        if !symbols {
-            return Entry::Refused(unexpected(token));
-        }
-        if token.kind != b'@' {
-            return Entry::Refused(unexpected(token));
-        }
-        return read_symbol(text, classes, token.start, next, count);
+        return Entry::Refused(unexpected(token));
     }
     if 64 <= count {
         return Entry::Refused(Refusal {
@@ -207,10 +188,10 @@ fn read_entry(text: &[u8], classes: &Classes, cur: Cursor, count: usize, symbols
     after_entry(text, classes, next)
 }
 
-// An array whose `[` stands at `bracket`. Its entries may be symbols in a LET.
-fn array(text: &[u8], classes: &Classes, bracket: usize, cur: Cursor, symbols: bool) -> ArgRead
+// An array whose `[` stands at `bracket`.
+fn array(text: &[u8], classes: &Classes, bracket: usize, cur: Cursor) -> ArgRead
     requires { ⌜ now classes ≡ classTable ⌝ }
-    ensures { λ r. ⌜ ((limit : ℕ) (c : Call) → isLetCall c ≡ symbols → readIn limit (now (text .entry)) (arrayOpen c bracket) (cur .at) ≡ argThen limit (now (text .entry)) c r) ⌝ }
+    ensures { λ r. ⌜ ((limit : ℕ) (c : Call) → readIn limit (now (text .entry)) (arrayOpen c bracket) (cur .at) ≡ argThen limit (now (text .entry)) c r) ⌝ }
     ensures { λ r. ⌜ ArgFurther (now (text .entry)) (cur .at) r ⌝ }
 {
     let token = cur.token(text, classes);
@@ -230,7 +211,7 @@ fn array(text: &[u8], classes: &Classes, bracket: usize, cur: Cursor, symbols: b
     let mut n = 0;
     let mut from = cur;
     loop {
-        match read_entry(text, classes, from, n, symbols) {
+        match read_entry(text, classes, from, n) {
             Entry::More(c) => {
                 from = c;
                 n += 1;
@@ -250,10 +231,10 @@ fn array(text: &[u8], classes: &Classes, bracket: usize, cur: Cursor, symbols: b
     }
 }
 
-// One argument. A LET's may be an array with symbols.
-pub fn argument(text: &[u8], classes: &Classes, cur: Cursor, symbols: bool, limit: u32) -> ArgRead
+// One argument.
+pub fn argument(text: &[u8], classes: &Classes, cur: Cursor, limit: u32) -> ArgRead
     requires { ⌜ now classes ≡ classTable ⌝ }
-    ensures { λ r. ⌜ ((c : Call) → isLetCall c ≡ symbols → readIn limit (now (text .entry)) (argument·state c) (cur .at) ≡ argThen limit (now (text .entry)) c r) ⌝ }
+    ensures { λ r. ⌜ ((c : Call) → readIn limit (now (text .entry)) (argument·state c) (cur .at) ≡ argThen limit (now (text .entry)) c r) ⌝ }
     ensures { λ r. ⌜ ArgFurther (now (text .entry)) (cur .at) r ⌝ }
 {
     let token = cur.token(text, classes);
@@ -271,7 +252,7 @@ pub fn argument(text: &[u8], classes: &Classes, cur: Cursor, symbols: bool, limi
         b'*' => ArgRead::Arg(Arg::Star(token.start), next),
         b'+' => ArgRead::Arg(Arg::Plus(token.start), next),
         b'@' => symbol(text, classes, token.start, next),
-        b'[' => array(text, classes, token.start, next, symbols),
+        b'[' => array(text, classes, token.start, next),
         b')' => ArgRead::Close {
             at: token.start,
             next,

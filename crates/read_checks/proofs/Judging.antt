@@ -10,9 +10,9 @@ use Rattle.counts.specs.declared.Counted.the-variants as count
 use Rattle.counts.specs.Count.{countOf, value, whole}
 use Rattle.labels.specs.declared.Found.the-variants.{Place, Nothing}
 use Rattle.labels.specs.Table.{foundAs}
-use Rattle.reading.specs.Statement.{Name, aNumber, Item}
+use Rattle.reading.specs.Statement.{aWord, aNumber, Item}
 use Rattle.reading.specs.Answer.{Answer, accepted, refused, _>>=_}
-use Rattle.reading.specs.Argument.{countAt, countItem, countList}
+use Rattle.reading.specs.Argument.{countAt, countList}
 use Rattle.read_forms.specs.declared.Refusal.{Refusal}
 use Rattle.read_forms.specs.declared.Kind as kinds
 use Rattle.read_forms.specs.declared.Kind.the-variants as kind
@@ -22,7 +22,7 @@ use Rattle.read_forms.proofs.Entries.{entries-next, listed-next}
 use Rattle.read_checks.specs.declared.Checked.{Checked}
 use Rattle.read_checks.specs.declared.Checked.the-variants.{Fine, Refused}
 use Rattle.read_checks.specs.declared.Entry as checked
-use Rattle.read_checks.specs.Answers.{checkedAs, refusedBy, noNumber, entryIn, NextEntry, goesOn}
+use Rattle.read_checks.specs.Answers.{checkedAs, refusedBy, ofWord, entryIn, NextEntry, goesOn}
 
 -- a list, judged by `j`, is in order with the values `v`, or is refused
 abbrev pub Judged : (List Item → Answer (List ℕ)) → (List Item → List ℕ) → List Item → Checked → Type 0
@@ -94,21 +94,19 @@ counted-value limit w n e = go (whole w) (leb (value w) 4294967295) (leb (value 
     go true false c e = cc
     go false b c e = cc
 
--- an entry is a number, unless it is none
-number-kind : (k : kinds.Kind) → noNumber k ≡ false → kindAs k ≡ aNumber
+-- an entry that is no word is a number
+number-kind : (k : kinds.Kind) → ofWord k ≡ false → kindAs k ≡ aNumber
 number-kind kind.Word e = absurd (true≢false e)
 number-kind kind.Number e = refl
-number-kind kind.Symbol e = absurd (true≢false e)
 
-no-count : (limit o : ℕ) (k : kinds.Kind) (n : Name) → noNumber k ≡ true → countItem limit o (kindAs k) n ≡ refused 9 o
-no-count limit o kind.Word n e = refl
-no-count limit o kind.Number n e = absurd (true≢false (sym e))
-no-count limit o kind.Symbol n e = refl
+word-kind : (k : kinds.Kind) → ofWord k ≡ true → kindAs k ≡ aWord
+word-kind kind.Word e = refl
+word-kind kind.Number e = absurd (true≢false (sym e))
 
 module _ (limit o : ℕ) (s : List ℕ) (i : checked.Entry) where
   pub count-fine :
       (n : ℕ)
-      → noNumber (i .kind) ≡ false
+      → ofWord (i .kind) ≡ false
       → count.Count n ≡ countOf limit (nameIn s (i .name) .spelling)
       → (is : List Item) (r : Checked)
       → Judged (countList limit o) valuesIn is r
@@ -119,14 +117,14 @@ module _ (limit o : ℕ) (s : List ℕ) (i : checked.Entry) where
       (checked-more (countOr0 (countOf 4294967295 (nameIn s (i .name) .spelling))) (countList limit o is) (valuesIn is) r h)
 
   pub count-refused :
-      noNumber (i .kind) ≡ false
+      ofWord (i .kind) ≡ false
       → count.Refused ≡ countOf limit (nameIn s (i .name) .spelling)
       → (is : List Item)
       → countList limit o (entryIn s i ∷ is) ≡ refused 4 (i .name .offset)
   unfolding countList countAt
   count-refused k e is = rw (number-kind (i .kind) k, ← e)
 
-  -- a word or a symbol in an array of counts
-  pub count-word : noNumber (i .kind) ≡ true → (is : List Item) → countList limit o (entryIn s i ∷ is) ≡ refused 9 o
+  -- a word in an array of counts
+  pub count-word : ofWord (i .kind) ≡ true → (is : List Item) → countList limit o (entryIn s i ∷ is) ≡ refused 9 o
   unfolding countList
-  count-word k is = rw (no-count limit o (i .kind) (nameIn s (i .name)) k)
+  count-word k is = rw (word-kind (i .kind) k)

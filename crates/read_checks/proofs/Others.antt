@@ -47,15 +47,15 @@ module _ (s : List ℕ) where
   no-operand (Range o a b) k = refl
   no-operand (Array o is) k = absurd (miss (1 ∷ 5 ∷ []) 6 tt k)
 
-  pub no-items : (a : Arg) → OneOf (0 ∷ 1 ∷ 5 ∷ []) (tagOf the-type a) → itemsOf (argIn s a) ≡ refused 9 (placeOf (argIn s a))
+  pub no-items : (a : Arg) → OneOf (0 ∷ 1 ∷ 2 ∷ 5 ∷ []) (tagOf the-type a) → itemsOf (argIn s a) ≡ refused 9 (placeOf (argIn s a))
   unfolding itemsOf argIn placeOf
   no-items (Star o) k = refl
   no-items (Plus o) k = refl
-  no-items (Symbol o n) k = absurd (miss (0 ∷ 1 ∷ 5 ∷ []) 2 tt k)
-  no-items (Word n) k = absurd (miss (0 ∷ 1 ∷ 5 ∷ []) 3 tt k)
-  no-items (Number n) k = absurd (miss (0 ∷ 1 ∷ 5 ∷ []) 4 tt k)
+  no-items (Symbol o n) k = refl
+  no-items (Word n) k = absurd (miss (0 ∷ 1 ∷ 2 ∷ 5 ∷ []) 3 tt k)
+  no-items (Number n) k = absurd (miss (0 ∷ 1 ∷ 2 ∷ 5 ∷ []) 4 tt k)
   no-items (Range o a b) k = refl
-  no-items (Array o is) k = absurd (miss (0 ∷ 1 ∷ 5 ∷ []) 6 tt k)
+  no-items (Array o is) k = absurd (miss (0 ∷ 1 ∷ 2 ∷ 5 ∷ []) 6 tt k)
 
   pub no-word : (a : Arg) → OneOf (0 ∷ 1 ∷ 2 ∷ 4 ∷ 5 ∷ 6 ∷ []) (tagOf the-type a) → nameOf aWord (argIn s a) ≡ refused 9 (placeOf (argIn s a))
   unfolding nameOf argIn placeOf

@@ -4,7 +4,6 @@ use mathlib.Core.Bool.{Bool, true, false, cond}
 use mathlib.Core.List.{List, [], _∷_}
 use mathlib.Core.Path.{_≡_}
 use lib.Dec.{eqb}
-use Rattle.tokens.specs.Token.{mark, _▸_}
 use Rattle.tokens.specs.Next.{tokenAt}
 use Rattle.labels.specs.declared.Family.{Family}
 use Rattle.reading.specs.Statement.{Name, Item}
@@ -14,7 +13,7 @@ use Rattle.reading.specs.Argument.{firsts, modeList}
 use Rattle.read_forms.specs.declared.Refusal.{Refusal}
 use Rattle.read_forms.specs.declared.Kind as kinds
 use Rattle.read_forms.specs.declared.Kind.the-variants as kind
-use Rattle.read_forms.specs.Items.{tokensFrom, nameIn, kindAs, symbolAhead, byEntry, Entered, entries, itemsIn}
+use Rattle.read_forms.specs.Items.{tokensFrom, nameIn, kindAs, Entered, entries, itemsIn}
 use Rattle.read_forms.specs.Fits.{InText}
 use Rattle.read_forms.specs.Forms.{modesIn, countsIn, operandIn, opAs}
 use Rattle.read_checks.specs.declared
@@ -73,19 +72,9 @@ modesListed f is = modeList f is >>= λ ms. accepted (statement.modes (firsts ms
 abbrev pub kindOf : ℕ → kinds.Kind
 kindOf k = cond (eqb k 1) kind.Number kind.Word
 
-abbrev pub noNumber : kinds.Kind → Bool
-noNumber kind.Word = true
-noNumber kind.Number = false
-noNumber kind.Symbol = true
-
--- an `@` that is read from an offset on, where it stands, and the offset behind it
-pub record Signed (s : List ℕ) (o sign n : ℕ) : Type 0 where
-  pub tokens : tokensFrom s o ≡ record { place = sign; shape = mark 64 } ▸ tokensFrom s n
-  pub further : o ≤ n
-
--- the name of a symbol stands there
-abbrev pub SymbolFrom : List ℕ → ℕ → Type 0
-SymbolFrom s o = byEntry (symbolAhead (tokensFrom s o)) false (λ i us. true) ≡ true
+abbrev pub ofWord : kinds.Kind → Bool
+ofWord kind.Word = true
+ofWord kind.Number = false
 
 -- the entry as the definition of reading has it
 abbrev pub entryIn : List ℕ → declared.Entry.Entry → Item

@@ -18,7 +18,7 @@ ghost use Rattle.reading.specs.Feature.{isN, operatorOf, nameOf};
 ghost use Rattle.read_forms.specs.Items.{tokensFrom, nameIn, itemsIn, listed};
 ghost use Rattle.read_forms.specs.Forms.{argIn, valuesIn};
 ghost use Rattle.read_forms.specs.Fits.{InText, Listed, Stands, Fits};
-ghost use Rattle.read_checks.specs.Answers.{checkedAs, modesAs, countsAs, operandAs, itemsAs, nameAs, opReadAs, Signed, SymbolFrom, NextEntry, goesOn, kindOf, noNumber, modesListed};
+ghost use Rattle.read_checks.specs.Answers.{checkedAs, modesAs, countsAs, operandAs, itemsAs, nameAs, opReadAs, NextEntry, goesOn, kindOf, ofWord, modesListed};
 use counts::Counted;
 use labels::Family;
 use labels::Found;
@@ -88,36 +88,16 @@ fn kind_of(kind: u8) -> Kind
     Kind::Word
 }
 
-// Whether an entry is no number: a word or a symbol.
-fn no_number(kind: Kind) -> bool
-    ensures { λ r. ⌜ r ≡ noNumber kind ⌝ }
+fn is_word(kind: Kind) -> bool
+    ensures { λ r. ⌜ r ≡ ofWord kind ⌝ }
 {
     match kind {
         Kind::Word => true,
         Kind::Number => false,
-        Kind::Symbol => true,
     }
 }
 
-// The name of a symbol, which stands behind its `@`, and the cursor behind it.
-fn symbol_at(text: &[u8], classes: &Classes, cur: Cursor) -> Entry
-    requires { ⌜ (now classes ≡ classTable) × SymbolFrom (now text) (cur .at) ⌝ }
-    ensures { λ r. ⌜ ((o sign : ℕ) → Signed (now (text .entry)) o sign (cur .at) → NextEntry (now (text .entry)) o r) ⌝ }
-{
-    let token = cur.token(text, classes);
-    let next = token.next;
-    let name = Name {
-        offset: token.start,
-        length: next.at - token.start,
-    };
-    Entry {
-        kind: Kind::Symbol,
-        name,
-        next,
-    }
-}
-
-// The entry that stands at the cursor, or after the blanks there: one token, or two where it is a symbol. No other function that goes over a list knows that. It
+// The entry that stands at the cursor, or after the blanks there. No other function that goes over a list knows how many tokens an entry has. It
 // and `after_entry` are two, and small, so that the compiler puts both into each loop: one that reads the entry and the `,` stays a call, which
 // costs a tenth of Print on a text of long lists.
 pub fn entry_at(text: &[u8], classes: &Classes, cur: Cursor) -> Entry
@@ -126,9 +106,6 @@ pub fn entry_at(text: &[u8], classes: &Classes, cur: Cursor) -> Entry
 {
     let token = cur.token(text, classes);
     let next = token.next;
-    if tokens::NUMBER < token.kind {
-        return symbol_at(text, classes, next);
-    }
     let name = Name {
         offset: token.start,
         length: next.at - token.start,
@@ -271,7 +248,7 @@ fn check_counts(text: &[u8], classes: &Classes, at: usize, items: Items, limit: 
     while 0 < left {
         let entry = entry_at(text, classes, cur);
         let kind = entry.kind;
-        if no_number(kind) {
+        if is_word(kind) {
             return Checked::Refused(wrong(at));
         }
         let name = entry.name;
@@ -332,12 +309,12 @@ fn listed_counts(text: &[u8], classes: &Classes, at: usize, items: Items, limit:
     }
 }
 
-// A word, a number or a symbol alone as a list: its one entry is read from where it stands.
-fn alone(at: usize) -> Items
-    ensures { λ r. ⌜ r ≡ record { first = cursor at; count = 1 } ⌝ }
+// A word or a number alone as a list: its one entry is read from where it stands.
+fn alone(name: Name) -> Items
+    ensures { λ r. ⌜ r ≡ record { first = cursor (name .offset); count = 1 } ⌝ }
 {
     Items {
-        first: Cursor { at },
+        first: Cursor { at: name.offset },
         count: 1,
     }
 }
@@ -349,8 +326,8 @@ pub fn operand_of(arg: Arg) -> OperandRead
     match arg {
         Arg::Star(_) => OperandRead::Operand(Operand::Wildcard),
         Arg::Symbol { at: _, name } => OperandRead::Operand(Operand::Symbol(name)),
-        Arg::Word(name) => OperandRead::Operand(Operand::Names(alone(name.offset))),
-        Arg::Number(name) => OperandRead::Operand(Operand::Names(alone(name.offset))),
+        Arg::Word(name) => OperandRead::Operand(Operand::Names(alone(name))),
+        Arg::Number(name) => OperandRead::Operand(Operand::Names(alone(name))),
         Arg::Array { at, items } => {
             if items.count == 0 {
                 return OperandRead::Refused(wrong(at));
@@ -366,9 +343,8 @@ pub fn items_of(arg: Arg) -> ItemsRead
     ensures { λ r. ⌜ ((s : List ℕ) → Fits s arg → itemsAs s r ≡ itemsOf (argIn s arg)) ⌝ }
 {
     match arg {
-        Arg::Word(name) => ItemsRead::Items(alone(name.offset)),
-        Arg::Number(name) => ItemsRead::Items(alone(name.offset)),
-        Arg::Symbol { at, name: _ } => ItemsRead::Items(alone(at)),
+        Arg::Word(name) => ItemsRead::Items(alone(name)),
+        Arg::Number(name) => ItemsRead::Items(alone(name)),
         Arg::Array { at, items } => {
             if items.count == 0 {
                 return ItemsRead::Refused(wrong(at));

@@ -17,7 +17,7 @@ pub items-are : (s : List ℕ) (is : Items) → Listed s is → itemsIn s is ≡
 unfolding itemsIn
 items-are s is l = simp (l .are, le-leb (is .count) 64 (l .few))
 
--- an entry alone
+-- a word or a number alone
 pub one-listed : (s : List ℕ) (o : ℕ) → listed 1 (tokensFrom s o) ≡ true → Listed s (record { first = cursor o; count = 1 })
 one-listed s o e = record { are = e; few = lit≤ tt }
 
@@ -36,7 +36,7 @@ pub no-items : (s : List ℕ) (is : Items) → is .count ≡ 0 → itemsIn s is 
 unfolding itemsIn entries listed
 no-items s is e = simp e
 
--- it is its own list
+-- a word or a number alone is its own list
 pub stands-one :
-    {s : List ℕ} {k : Kind} {o : ℕ} {n : Name} → Stands s k o n → itemsIn s (record { first = cursor o; count = 1 }) ≡ record { kind = k; name = nameIn s n } ∷ []
-stands-one {s} {k} {o} {n} w = items-are s (record { first = cursor o; count = 1 }) (one-listed s o (w .one)) ∙ w .alone
+    {s : List ℕ} {k : Kind} {n : Name} → Stands s k n → itemsIn s (record { first = cursor (n .offset); count = 1 }) ≡ record { kind = k; name = nameIn s n } ∷ []
+stands-one {s} {k} {n} w = items-are s (record { first = cursor (n .offset); count = 1 }) (one-listed s (n .offset) (w .one)) ∙ w .alone

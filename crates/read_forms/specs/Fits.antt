@@ -4,7 +4,7 @@ use mathlib.Core.Bool.{true}
 use mathlib.Core.List.{List, [], _∷_}
 use mathlib.Core.Path.{_≡_}
 use lib.ListN.{length}
-use Rattle.reading.specs.Statement.{Kind, aWord, aNumber, aSymbol}
+use Rattle.reading.specs.Statement.{Kind, aWord, aNumber}
 use Rattle.read_forms.specs.declared.Name.{Name}
 use Rattle.read_forms.specs.declared.Items.{Items}
 use Rattle.read_forms.specs.declared.Arg.{Arg}
@@ -16,23 +16,23 @@ use Rattle.read_forms.specs.Items.{tokensFrom, nameIn, entries, listed}
 abbrev pub InText : List ℕ → Name → Type 0
 InText s n = n .offset + n .length ≤ length s
 
--- a list's entries are words, numbers and symbols, at most 64
+-- a list's entries are words and numbers, at most 64
 pub record Listed (s : List ℕ) (is : Items) : Type 0 where
   pub are : listed (is .count) (tokensFrom s (is .first .at)) ≡ true
   pub few : is .count ≤ 64
 
--- a word, number or symbol alone is the one entry of a list that starts where it does
-pub record Stands (s : List ℕ) (k : Kind) (o : ℕ) (n : Name) : Type 0 where
+-- a word or number alone is the one entry of a list that starts with it
+pub record Stands (s : List ℕ) (k : Kind) (n : Name) : Type 0 where
   pub inside : InText s n
-  pub alone : entries 1 (tokensFrom s o) ≡ record { kind = k; name = nameIn s n } ∷ []
-  pub one : listed 1 (tokensFrom s o) ≡ true
+  pub alone : entries 1 (tokensFrom s (n .offset)) ≡ record { kind = k; name = nameIn s n } ∷ []
+  pub one : listed 1 (tokensFrom s (n .offset)) ≡ true
 
 unfoldable pub Fits : List ℕ → Arg → Type 0
 Fits s (Star o) = Unit {0}
 Fits s (Plus o) = Unit {0}
-Fits s (Symbol o n) = Stands s aSymbol o n
-Fits s (Word n) = Stands s aWord (n .offset) n
-Fits s (Number n) = Stands s aNumber (n .offset) n
+Fits s (Symbol o n) = InText s n
+Fits s (Word n) = Stands s aWord n
+Fits s (Number n) = Stands s aNumber n
 Fits s (Range o a b) = Unit {0}
 Fits s (Array o is) = Listed s is
 

@@ -7,8 +7,7 @@ use lib.Dec.{leb}
 use lib.ListN.{take, drop}
 use Rattle.tokens.specs.Token.{Shape, word, number, mark, Tokens, finish, bad, _▸_}
 use Rattle.tokens.specs.Lex.{tokensAt}
-use Rattle.text.specs.Bytes.{is}
-use Rattle.reading.specs.Statement.{Name, Kind, aWord, aNumber, aSymbol, Item}
+use Rattle.reading.specs.Statement.{Name, Kind, aWord, aNumber, Item}
 use Rattle.reading.specs.Syntax.{itemAs}
 use Rattle.read_forms.specs.declared.Name as form
 use Rattle.read_forms.specs.declared.Items as list
@@ -28,7 +27,6 @@ nameIn s n = record { place = n .offset; spelling = take (n .length) (drop (n .o
 abbrev pub kindAs : kinds.Kind → Kind
 kindAs kind.Word = aWord
 kindAs kind.Number = aNumber
-kindAs kind.Symbol = aSymbol
 
 abbrev pub itemIn : List ℕ → entry.Item → Item
 itemIn s i = record { kind = kindAs (i .kind); name = nameIn s (i .name) }
@@ -48,28 +46,17 @@ abbrev pub byEntry : {A : Type 0} → Ahead → A → (Item → Tokens → A) �
 byEntry (anEntry i ts) a f = f i ts
 byEntry noEntry a f = a
 
--- the word behind the `@` of a symbol, with what is left behind it and the token after it
-abbrev pub symbolAs : ℕ → Shape → Tokens → Ahead
-symbolAs o (word w) ts = anEntry (itemAs aSymbol o w) ts
-symbolAs o (number w) ts = noEntry
-symbolAs o (mark m) ts = noEntry
-
-abbrev pub symbolAhead : Tokens → Ahead
-symbolAhead finish = noEntry
-symbolAhead (bad o) = noEntry
-symbolAhead (t ▸ ts) = symbolAs (t .place) (t .shape) (rest ts)
-
--- what a token of a shape starts, with the tokens behind it
+-- a token of a shape, with what is left behind it and the token after it
 abbrev pub entryAs : ℕ → Shape → Tokens → Ahead
-entryAs o (word w) ts = anEntry (itemAs aWord o w) (rest ts)
-entryAs o (number w) ts = anEntry (itemAs aNumber o w) (rest ts)
-entryAs o (mark m) ts = cond (is "@" m) (symbolAhead ts) noEntry
+entryAs o (word w) ts = anEntry (itemAs aWord o w) ts
+entryAs o (number w) ts = anEntry (itemAs aNumber o w) ts
+entryAs o (mark m) ts = noEntry
 
--- One entry off the front of the tokens: a word, a number, or a symbol. How many tokens an entry has is said here and nowhere else.
+-- One entry off the front of the tokens: a word or a number. How many tokens an entry has is said here and nowhere else.
 unfoldable pub entryAhead : Tokens → Ahead
 entryAhead finish = noEntry
 entryAhead (bad o) = noEntry
-entryAhead (t ▸ ts) = entryAs (t .place) (t .shape) ts
+entryAhead (t ▸ ts) = entryAs (t .place) (t .shape) (rest ts)
 
 -- an entry stands ahead, and these tokens are left
 pub record Entered (ts : Tokens) (i : Item) (left : Tokens) : Type 0 where

@@ -15,20 +15,19 @@ pub struct Name {
     pub length: usize,
 }
 
-// What an entry of a list is. Only a LET's list has symbols.
+// What an entry of a list is.
 pub enum Kind {
     Word,
     Number,
-    Symbol,
 }
 
-// An entry of an array, and a value of a LET. The name of a symbol is without its `@`.
+// An entry of an array, and a value of a LET.
 pub struct Item {
     pub kind: Kind,
     pub name: Name,
 }
 
-// The entries of an array, or one word, number or symbol alone: the cursor from which the first is read, and how many there are.
+// The entries of an array, or one word or number alone: the cursor from which the first is read, and how many there are.
 pub struct Items {
     pub first: Cursor,
     pub count: usize,

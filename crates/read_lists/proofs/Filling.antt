@@ -12,7 +12,7 @@ use Rattle.tokens.specs.Token.{Tokens}
 use Rattle.reading.specs.Statement.{Item}
 use Rattle.read_forms.specs.declared.Name.{Name}
 use Rattle.read_forms.specs.declared.Kind.{Kind}
-use Rattle.read_forms.specs.declared.Kind.the-variants.{Word, Number, Symbol}
+use Rattle.read_forms.specs.declared.Kind.the-variants.{Word, Number}
 use Rattle.read_forms.specs.declared.Items.{Items}
 use Rattle.read_forms.specs.Items.{tokensFrom, kindAs, Entered, entries, afterEntries, listed, itemsIn}
 use Rattle.read_forms.proofs.Entries.{entries-ahead, after-ahead, next-listed, entries-more, after-more}
@@ -36,7 +36,6 @@ own-length s n h = length-take-le (n .length) (drop (n .offset) s) (simp length-
 kind-own : (k : Kind) → kindFor (kindAs k) ≡ k
 kind-own Word = refl
 kind-own Number = refl
-kind-own Symbol = refl
 
 pub own-item : (s : List ℕ) (r : checked.Entry) → InText s (r .name) → itemFor (entryIn s r) ≡ record { kind = r .kind; name = r .name }
 own-item s r h = rw (kind-own (r .kind), own-length s (r .name) h)

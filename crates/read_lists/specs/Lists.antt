@@ -6,9 +6,9 @@ use mathlib.Core.List.{List, [], _∷_, map}
 use lib.Dec.{leb}
 use lib.ListN.{length}
 use Rattle.reading.specs.Statement as statement
-use Rattle.reading.specs.Statement.{aWord, aNumber, aSymbol}
+use Rattle.reading.specs.Statement.{aWord, aNumber}
 use Rattle.read_forms.specs.declared.Kind.{Kind}
-use Rattle.read_forms.specs.declared.Kind.the-variants.{Word, Number, Symbol}
+use Rattle.read_forms.specs.declared.Kind.the-variants.{Word, Number}
 use Rattle.read_forms.specs.declared.Name.{Name}
 use Rattle.read_forms.specs.declared.Item.{Item}
 
@@ -16,7 +16,6 @@ use Rattle.read_forms.specs.declared.Item.{Item}
 abbrev pub kindFor : statement.Kind → Kind
 kindFor aWord = Word
 kindFor aNumber = Number
-kindFor aSymbol = Symbol
 
 abbrev pub pairOf : statement.Name → Name
 pairOf n = record { offset = n .place; length = length (n .spelling) }

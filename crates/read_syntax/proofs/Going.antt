@@ -1,13 +1,13 @@
 -- How the reading of arguments goes on from one to the next, and where it ends.
 -- Assumes nothing.
 use mathlib.Core.Path.{_≡_, refl, ap, sym, subst}
-use mathlib.Core.Bool.{Bool, true, false}
+use mathlib.Core.Bool.{true, false}
 use mathlib.Core.List.{List, [], _∷_, _++_}
 use Prim.Native.Nat.{ℕ, _≤_}
 use native.Mathlib.Omega.{arith}
 use Rattle.reading.specs.Statement.{Name}
 use Rattle.reading.specs.Argument as argument
-use Rattle.reading.specs.Syntax.{more, featureMade, isLetCall, closed, comma, empty, wrong}
+use Rattle.reading.specs.Syntax.{more, featureMade, closed, comma, empty, wrong}
 use Rattle.reading.specs.Syntax as syntax
 use Rattle.read_forms.specs.declared.Arg.{Arg}
 use Rattle.read_forms.specs.declared.Args.{Args}
@@ -41,11 +41,6 @@ unfolding callThen CallFurther
 misplaced-then limit o p n s r e = ((λ k. ap (callThen limit s k) (sym e)), subst (CallFurther s o) (sym e) tt)
 
 module _ (s : List ℕ) (k : Name) where
-  -- a LET's argument is that of a LET
-  pub let-one : (h : Head) (ys : List argument.Arg) (b : Bool) → b ≡ takesOne h → isLetCall (callOf s k h ys) ≡ b
-  let-one (head.Feature m) ys b e = sym e
-  let-one (head.Let n) ys b e = sym e
-
   -- a `,` behind an argument: a LET has no second one
   pub comma-one :
       (o : ℕ) (h : Head) (ys : List argument.Arg) (a : argument.Arg) → takesOne h ≡ true → comma o (callOf s k h ys) a ≡ wrong o

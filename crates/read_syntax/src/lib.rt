@@ -40,7 +40,7 @@ pub enum CallRead {
     Refused(Refusal),
 }
 
-// A LET has one argument, which may have symbols; a feature may have any number.
+// A LET has one argument; a feature may have any number.
 fn takes_one(head: Head) -> bool
     ensures { λ r. ⌜ r ≡ takesOne head ⌝ }
 {
@@ -77,7 +77,7 @@ fn read_args(text: &[u8], classes: &Classes, cur: Cursor, head: Head, limit: u32
     let mut fourth = Arg::Star(0);
     let mut from = cur;
     loop {
-        match read_arguments::argument(text, classes, from, one, limit) {
+        match read_arguments::argument(text, classes, from, limit) {
             ArgRead::Arg(arg, end) => {
                 match count {
                     0 => first = arg,

@@ -36,7 +36,6 @@ use Rattle.reading.specs.Statement.{
   Kind,
   aWord,
   aNumber,
-  aSymbol,
   Item,
   Modes,
   allModes,
@@ -250,34 +249,12 @@ faults =
     ∷ ("LET(A,*)" ⟶ refusal 9 6)
     ∷ ("LET(A,+)" ⟶ refusal 9 6)
     ∷ ("LET(A,1..2)" ⟶ refusal 9 6)
+    ∷ ("LET(A,@B)" ⟶ refusal 9 6)
     ∷ ("LET(A,[])" ⟶ refusal 9 6)
     -- 11: a 65th entry, before the keyword and before an entry that is none
     ∷ ("LET(A,[B,B,B,B,B,B,B,B,B,B,B,B,B,B,B,B,B,B,B,B,B,B,B,B,B,B,B,B,B,B,B,B,B,B,B,B,B,B,B,B,B,B,B,B,B,B,B,B,B,B,B,B,B,B,B,B,B,B,B,B,B,B,B,B,B])" ⟶ refusal 11 135)
     ∷ ("FOO([B,B,B,B,B,B,B,B,B,B,B,B,B,B,B,B,B,B,B,B,B,B,B,B,B,B,B,B,B,B,B,B,B,B,B,B,B,B,B,B,B,B,B,B,B,B,B,B,B,B,B,B,B,B,B,B,B,B,B,B,B,B,B,B,B])" ⟶ refusal 11 133)
     ∷ ("FOO([B,B,B,B,B,B,B,B,B,B,B,B,B,B,B,B,B,B,B,B,B,B,B,B,B,B,B,B,B,B,B,B,B,B,B,B,B,B,B,B,B,B,B,B,B,B,B,B,B,B,B,B,B,B,B,B,B,B,B,B,B,B,B,B,*])" ⟶ refusal 3 133)
-    -- document 02, P3: an `@` in an array that is no LET's, and one without a word after it, the end of the text too; as the 65th an
-    -- `@NAME` counts as a word, at its `@`, and an `@` without a word does not
-    ∷ ("IIV([@PK],EXP)" ⟶ refusal 3 5)
-    ∷ ("IIV([CL,@PK],EXP)" ⟶ refusal 3 8)
-    ∷ ("ABSORPTION([@FO])" ⟶ refusal 3 12)
-    ∷ ("LET(A,@)" ⟶ refusal 3 7)
-    ∷ ("LET(A,@1)" ⟶ refusal 3 7)
-    ∷ ("LET(A,[@])" ⟶ refusal 3 8)
-    ∷ ("LET(A,[@1])" ⟶ refusal 3 8)
-    ∷ ("LET(A,[B,@@C])" ⟶ refusal 3 10)
-    ∷ ("LET(A,[@" ⟶ refusal 3 8)
-    ∷ ("LET(A,[@\nB])" ⟶ refusal 3 8)
-    ∷ ("LET(A,[@B C])" ⟶ refusal 3 10)
-    ∷ ("LET(@A,B)" ⟶ refusal 3 4)
-    ∷ ("LET(A,@B,C)" ⟶ refusal 3 8)
-    ∷ ("LET(A,[@B..C])" ⟶ refusal 3 9)
-    ∷ ("LET(A,[@B,@B,@B,@B,@B,@B,@B,@B,@B,@B,@B,@B,@B,@B,@B,@B,@B,@B,@B,@B,@B,@B,@B,@B,@B,@B,@B,@B,@B,@B,@B,@B,@B,@B,@B,@B,@B,@B,@B,@B,@B,@B,@B,@B,@B,@B,@B,@B,@B,@B,@B,@B,@B,@B,@B,@B,@B,@B,@B,@B,@B,@B,@B,@B])" ⟶ stands 1)
-    ∷ ("LET(A,[B,B,B,B,B,B,B,B,B,B,B,B,B,B,B,B,B,B,B,B,B,B,B,B,B,B,B,B,B,B,B,B,B,B,B,B,B,B,B,B,B,B,B,B,B,B,B,B,B,B,B,B,B,B,B,B,B,B,B,B,B,B,B,B,@C])" ⟶ refusal 11 135)
-    ∷ ("LET(A,[B,B,B,B,B,B,B,B,B,B,B,B,B,B,B,B,B,B,B,B,B,B,B,B,B,B,B,B,B,B,B,B,B,B,B,B,B,B,B,B,B,B,B,B,B,B,B,B,B,B,B,B,B,B,B,B,B,B,B,B,B,B,B,B,@ C])" ⟶ refusal 11 135)
-    ∷ ("LET(A,[B,B,B,B,B,B,B,B,B,B,B,B,B,B,B,B,B,B,B,B,B,B,B,B,B,B,B,B,B,B,B,B,B,B,B,B,B,B,B,B,B,B,B,B,B,B,B,B,B,B,B,B,B,B,B,B,B,B,B,B,B,B,B,B,@1])" ⟶ refusal 3 136)
-    ∷ ("LET(A,[B,B,B,B,B,B,B,B,B,B,B,B,B,B,B,B,B,B,B,B,B,B,B,B,B,B,B,B,B,B,B,B,B,B,B,B,B,B,B,B,B,B,B,B,B,B,B,B,B,B,B,B,B,B,B,B,B,B,B,B,B,B,B,B,@])" ⟶ refusal 3 136)
-    ∷ ("LET(A,[B,B,B,B,B,B,B,B,B,B,B,B,B,B,B,B,B,B,B,B,B,B,B,B,B,B,B,B,B,B,B,B,B,B,B,B,B,B,B,B,B,B,B,B,B,B,B,B,B,B,B,B,B,B,B,B,B,B,B,B,B,B,B,B,@" ⟶ refusal 3 136)
-    ∷ ("FOO([B,B,B,B,B,B,B,B,B,B,B,B,B,B,B,B,B,B,B,B,B,B,B,B,B,B,B,B,B,B,B,B,B,B,B,B,B,B,B,B,B,B,B,B,B,B,B,B,B,B,B,B,B,B,B,B,B,B,B,B,B,B,B,B,@C])" ⟶ refusal 3 133)
     ∷ []
 
 pub faults-checked : map (λ e. outcome (readText 64 (bytes (e .text)))) faults ≡ map (λ e. e .comes-to) faults
@@ -395,9 +372,6 @@ item o s = itemAs aWord o (bytes s)
 abbrev numeral : ℕ → String → Item
 numeral o s = itemAs aNumber o (bytes s)
 
-abbrev cited : ℕ → String → Item
-cited o s = itemAs aSymbol o (bytes s)
-
 abbrev as-written : ℕ → String → Name
 as-written o s = name o (bytes s)
 
@@ -434,11 +408,6 @@ readings =
     ∷ ("COVARIANCE(IOV,@X)" reads (feature (Covariance false (modes (1 ∷ [])) (symbol (as-written 16 "X"))) ∷ []))
     ∷ ("let(Let,[1,a,2.5])" reads (Let (as-written 4 "Let") (numeral 9 "1" ∷ item 11 "a" ∷ numeral 13 "2.5" ∷ []) ∷ []))
     ∷ ("LET(A,B)" reads (Let (as-written 4 "A") (item 6 "B" ∷ []) ∷ []))
-    -- symbols in a LET: alone, with blanks behind the `@`, in an array; the place is that of the name
-    ∷ ("LET(A,@B)" reads (Let (as-written 4 "A") (cited 7 "B" ∷ []) ∷ []))
-    ∷ ("LET(A,[@B])" reads (Let (as-written 4 "A") (cited 8 "B" ∷ []) ∷ []))
-    ∷ ("LET(A,[@ b,B,@  PK,1])"
-    reads (Let (as-written 4 "A") (cited 9 "b" ∷ item 11 "B" ∷ cited 16 "PK" ∷ numeral 19 "1" ∷ []) ∷ []))
     ∷ []
 
 pub readings-checked : map (λ e. readText 64 (bytes (e .text))) readings ≡ map (λ e. accepted (e .statements)) readings
@@ -483,7 +452,6 @@ apart =
     ∷ ("IIV(*,EXP)" has taken 11 false (operandPart everyone ∷ modesPart VariabilityEffect (modes (0 ∷ [])) ∷ []))
     ∷ ("IOV?(@X,*)" has taken 12 true (operandPart (symbol (as-written 6 "X")) ∷ modesPart VariabilityEffect allModes ∷ []))
     ∷ ("COVARIANCE?(IOV,*)" has taken 13 true (modesPart VariabilityLevel (modes (1 ∷ [])) ∷ operandPart everyone ∷ []))
-    ∷ ("LET(A,[@B,7])" has taken 14 false (namePart (as-written 4 "A") ∷ valuesPart (cited 8 "B" ∷ numeral 10 "7" ∷ []) ∷ []))
     ∷ ("LET(A,[B,7])" has taken 14 false (namePart (as-written 4 "A") ∷ valuesPart (item 7 "B" ∷ numeral 9 "7" ∷ []) ∷ []))
     ∷ []
 

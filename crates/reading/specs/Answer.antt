@@ -60,6 +60,6 @@ module _ {A : Type 0} where
   abbrev pub unknownMode : ℕ → Answer A
   unknownMode o = refused 10 o
 
-  -- a token but a separator after 256 statements; a 65th word or number in an array, where "an `@NAME` counts as a word, at its `@`"
+  -- a token but a separator after 256 statements; a 65th word or number in an array
   abbrev pub tooMany : ℕ → Answer A
   tooMany o = refused 11 o

@@ -16,7 +16,6 @@ use Rattle.reading.specs.Statement.{
   Kind,
   aWord,
   aNumber,
-  aSymbol,
   Item,
   Modes,
   allModes,
@@ -62,12 +61,11 @@ rangeOf limit low high = do
   b ← countAt limit high
   cond (ltb b a) (backwards (low .place)) (accepted (range (low .place) a b))
 
--- the values of a LET: one alone, or an array that is not empty. "A LET's value, or an item of its array, may now be `@NAME`" (document 02,
--- P3): in an array of a LET a symbol is an item, alone it is an argument of its own.
+-- names: one alone, or an array that is not empty
 unfoldable pub itemsOf : Arg → Answer (List Item)
 itemsOf (star o) = wrongArgument o
 itemsOf (plus o) = wrongArgument o
-itemsOf (symbol o n) = accepted (record { kind = aSymbol; name = n } ∷ [])
+itemsOf (symbol o n) = wrongArgument o
 itemsOf (single i) = accepted (i ∷ [])
 itemsOf (range o a b) = wrongArgument o
 itemsOf (array o []) = wrongArgument o
@@ -111,7 +109,6 @@ firsts (m ∷ ms) = m ∷ without m (firsts ms)
 abbrev pub loneMode : Family → Kind → Name → Answer Modes
 loneMode f aWord n = modeOf f n >>= λ m. accepted (modes (m ∷ []))
 loneMode f aNumber n = wrongArgument (n .place)
-loneMode f aSymbol n = wrongArgument (n .place)
 
 unfoldable pub modesOf : Family → Arg → Answer Modes
 modesOf f (star o) = accepted allModes
@@ -126,7 +123,6 @@ modesOf f (array o (i ∷ is)) = modeList f (i ∷ is) >>= λ ms. accepted (mode
 abbrev pub countItem : ℕ → ℕ → Kind → Name → Answer ℕ
 countItem limit o aWord n = wrongArgument o
 countItem limit o aNumber n = countAt limit n
-countItem limit o aSymbol n = wrongArgument o
 
 unfoldable pub countList : ℕ → ℕ → List Item → Answer (List ℕ)
 countList limit o [] = accepted []
@@ -138,7 +134,6 @@ countList limit o (i ∷ is) = do
 abbrev pub loneCount : ℕ → Kind → Name → Answer Counts
 loneCount limit aWord n = wrongArgument (n .place)
 loneCount limit aNumber n = countAt limit n >>= λ c. accepted (count c)
-loneCount limit aSymbol n = wrongArgument (n .place)
 
 unfoldable pub countsOf : ℕ → Arg → Answer Counts
 countsOf limit (star o) = wrongArgument o

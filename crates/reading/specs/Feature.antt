@@ -27,7 +27,6 @@ use Rattle.reading.specs.Statement.{
   Kind,
   aWord,
   aNumber,
-  aSymbol,
   Modes,
   allModes,
   modes,
@@ -161,11 +160,8 @@ operatorOf (some (array o is)) = wrongArgument o
 abbrev pub alone : Kind → Kind → Name → Answer Name
 alone aWord aWord n = accepted n
 alone aWord aNumber n = wrongArgument (n .place)
-alone aWord aSymbol n = wrongArgument (n .place)
 alone aNumber aWord n = wrongArgument (n .place)
 alone aNumber aNumber n = accepted n
-alone aNumber aSymbol n = wrongArgument (n .place)
-alone aSymbol k n = wrongArgument (n .place)
 
 unfoldable pub nameOf : Kind → Arg → Answer Name
 nameOf k (star o) = wrongArgument o

@@ -9,11 +9,10 @@ pub record Name : Type 0 where
   pub place : ℕ
   pub spelling : List ℕ
 
--- Document 02, P3: a value of a LET may be `@NAME`. It is told by its kind, so a symbol is never equal to a name.
 pub data Kind : Type 0 where
-  aWord aNumber aSymbol : Kind
+  aWord aNumber : Kind
 
--- An entry of an array, and a value of a LET. The name of a symbol is without its `@`.
+-- An entry of an array, and a value of a LET.
 pub record Item : Type 0 where
   pub kind : Kind
   pub name : Name

@@ -2,16 +2,16 @@
 -- what each next token makes of what was read before it:
 --     statement = WORD [`?`] `(` [ARG {`,` ARG}] `)`, or LET `(` WORD `,` ARG `)`
 --     ARG       = `*` | `+` | `@` WORD | WORD | NUMBER [`..` NUMBER] | `[` [ITEM {`,` ITEM}] `]`
---     ITEM      = WORD | NUMBER, and in a LET `@` WORD (document 02, P3: "A LET's value, or an item of its array, may now be `@NAME`")
+--     ITEM      = WORD | NUMBER
 use Prim.Native.Nat.{ℕ}
-use mathlib.Core.Bool.{Bool, true, false, cond, _&&_}
+use mathlib.Core.Bool.{Bool, true, false, cond}
 use mathlib.Core.List.{List, [], _∷_, _++_}
 use lib.Dec.{ltb}
 use lib.ListN.{length}
 use Rattle.text.specs.Bytes.{bytes, is}
 use Rattle.tokens.specs.Token.{Shape, word, number, mark}
 use Rattle.labels.specs.Word.{sameWord}
-use Rattle.reading.specs.Statement.{Name, Kind, aWord, aNumber, aSymbol, Item, Statement, Feature, Let, feature}
+use Rattle.reading.specs.Statement.{Name, Kind, aWord, aNumber, Item, Statement, Feature, Let, feature}
 use Rattle.reading.specs.Answer.{Answer, accepted, refused}
 use Rattle.reading.specs.Argument.{Arg, star, plus, symbol, single, array, rangeOf, itemsOf}
 use Rattle.reading.specs.Feature.{buildFeature}
@@ -34,8 +34,6 @@ pub data State : Type 0 where
   rangeOpen : Call → Name → State
   arrayOpen : Call → ℕ → State
   item : Call → ℕ → List Item → State
-  -- the `@` of an item, with its offset
-  itemAt : Call → ℕ → List Item → ℕ → State
   itemRead : Call → ℕ → List Item → State
   argumentRead : Call → Arg → State
 
@@ -88,18 +86,10 @@ empty limit o (featureCall k m []) = featureMade (buildFeature limit k m [])
 empty limit o (featureCall k m (a ∷ rest)) = wrong o
 empty limit o (letCall n) = wrong o
 
--- one more item of an array, which starts at an offset: "In 11 an `@NAME` counts as a word, at its `@`"
-abbrev pub entered : Call → ℕ → List Item → ℕ → Kind → ℕ → List ℕ → Step
-entered c p items q k o w =
-    cond (ltb (length items) 64) (more (itemRead c p (items ++ itemAs k o w ∷ []))) (overfull q)
-
-abbrev pub isLetCall : Call → Bool
-isLetCall (featureCall k m args) = false
-isLetCall (letCall n) = true
-
--- the `@` of an item, which only a LET has
-abbrev pub itemSign : Call → ℕ → List Item → ℕ → ℕ → Step
-itemSign c p items o m = cond (is "@" m && isLetCall c) (more (itemAt c p items o)) (wrong o)
+-- one more item of an array
+abbrev pub entered : Call → ℕ → List Item → Kind → ℕ → List ℕ → Step
+entered c p items k o w =
+    cond (ltb (length items) 64) (more (itemRead c p (items ++ itemAs k o w ∷ []))) (overfull o)
 
 abbrev pub rangeRead : Call → Answer Arg → Step
 rangeRead c (accepted a) = more (argumentRead c a)
@@ -145,15 +135,12 @@ turn limit (numberRead c n) o (mark m) =
 turn limit (rangeOpen c n) o (word w) = wrong o
 turn limit (rangeOpen c n) o (number w) = rangeRead c (rangeOf limit n (name o w))
 turn limit (rangeOpen c n) o (mark m) = wrong o
-turn limit (arrayOpen c p) o (word w) = entered c p [] o aWord o w
-turn limit (arrayOpen c p) o (number w) = entered c p [] o aNumber o w
-turn limit (arrayOpen c p) o (mark m) = cond (is "]" m) (more (argumentRead c (array p []))) (itemSign c p [] o m)
-turn limit (item c p items) o (word w) = entered c p items o aWord o w
-turn limit (item c p items) o (number w) = entered c p items o aNumber o w
-turn limit (item c p items) o (mark m) = itemSign c p items o m
-turn limit (itemAt c p items q) o (word w) = entered c p items q aSymbol o w
-turn limit (itemAt c p items q) o (number w) = wrong o
-turn limit (itemAt c p items q) o (mark m) = wrong o
+turn limit (arrayOpen c p) o (word w) = entered c p [] aWord o w
+turn limit (arrayOpen c p) o (number w) = entered c p [] aNumber o w
+turn limit (arrayOpen c p) o (mark m) = cond (is "]" m) (more (argumentRead c (array p []))) (wrong o)
+turn limit (item c p items) o (word w) = entered c p items aWord o w
+turn limit (item c p items) o (number w) = entered c p items aNumber o w
+turn limit (item c p items) o (mark m) = wrong o
 turn limit (itemRead c p items) o (word w) = wrong o
 turn limit (itemRead c p items) o (number w) = wrong o
 turn limit (itemRead c p items) o (mark m) =

@@ -11,7 +11,7 @@ use Rattle.counts.specs.Count.{countOf}
 use Rattle.labels.specs.declared.Family.{Family}
 use Rattle.labels.specs.Word.{find}
 use Rattle.labels.specs.Label.{labelsOf}
-use Rattle.reading.specs.Statement.{Name, Kind, aWord, aNumber, aSymbol, Item}
+use Rattle.reading.specs.Statement.{Name, Kind, aWord, aNumber, Item}
 use Rattle.reading.specs.Argument.{
   Arg,
   star,
@@ -73,7 +73,7 @@ pub items-moved : (to : ℕ → ℕ) (a : Arg) → Moves to (map (moveItem to)) 
 unfolding itemsOf
 items-moved to (star o) = falls
 items-moved to (plus o) = falls
-items-moved to (symbol o n) = stands refl
+items-moved to (symbol o n) = falls
 items-moved to (single i) = stands refl
 items-moved to (range o a b) = falls
 items-moved to (array o []) = falls
@@ -112,7 +112,6 @@ mode-list-moved to f (i ∷ is) =
 lone-mode-moved : (to : ℕ → ℕ) (f : Family) (k : Kind) (n : Name) → Moves to same (loneMode f k (moveName to n)) (loneMode f k n)
 lone-mode-moved to f aWord n = bind-moved _ (mode-moved to f n) λ m. stands refl
 lone-mode-moved to f aNumber n = falls
-lone-mode-moved to f aSymbol n = falls
 
 -- modes have no place
 pub modes-moved : (to : ℕ → ℕ) (f : Family) (a : Arg) → Moves to same (modesOf f (moveArg to a)) (modesOf f a)
@@ -129,7 +128,6 @@ count-item-moved :
     (to : ℕ → ℕ) (limit o : ℕ) (k : Kind) (n : Name) → Moves to same (countItem limit (to o) k (moveName to n)) (countItem limit o k n)
 count-item-moved to limit o aWord n = falls
 count-item-moved to limit o aNumber n = count-at-moved to limit n
-count-item-moved to limit o aSymbol n = falls
 
 count-list-moved :
     (to : ℕ → ℕ) (limit o : ℕ) (is : List Item) → Moves to same (countList limit (to o) (map (moveItem to) is)) (countList limit o is)
@@ -141,7 +139,6 @@ count-list-moved to limit o (i ∷ is) =
 lone-count-moved : (to : ℕ → ℕ) (limit : ℕ) (k : Kind) (n : Name) → Moves to same (loneCount limit k (moveName to n)) (loneCount limit k n)
 lone-count-moved to limit aWord n = falls
 lone-count-moved to limit aNumber n = bind-moved _ (count-at-moved to limit n) λ c. stands refl
-lone-count-moved to limit aSymbol n = falls
 
 -- counts have no place
 pub counts-moved : (to : ℕ → ℕ) (limit : ℕ) (a : Arg) → Moves to same (countsOf limit (moveArg to a)) (countsOf limit a)

@@ -80,7 +80,7 @@ refused-fault limit text n p e = fault-given (text-gives limit text) e
 
 -- The number of a fault.
 pub fault-least : (n : ℕ) → isFault n ≡ true → 1 ≤ n
-fault-least n e = leb-true 1 n (and-left (leb 1 n) (leb n 26) e)
+fault-least n e = leb-true 1 n (and-left (leb 1 n) (leb n 21) e)
 
-pub fault-most : (n : ℕ) → isFault n ≡ true → n ≤ 26
-fault-most n e = leb-true n 26 (and-right (leb 1 n) (leb n 26) e)
+pub fault-most : (n : ℕ) → isFault n ≡ true → n ≤ 21
+fault-most n e = leb-true n 21 (and-right (leb 1 n) (leb n 21) e)

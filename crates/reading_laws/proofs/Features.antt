@@ -24,7 +24,6 @@ use Rattle.reading.specs.Statement.{
   Kind,
   aWord,
   aNumber,
-  aSymbol,
   Modes,
   allModes,
   modes,
@@ -141,9 +140,6 @@ alone-moved to aWord aWord n = stands refl
 alone-moved to aWord aNumber n = falls
 alone-moved to aNumber aWord n = falls
 alone-moved to aNumber aNumber n = stands refl
-alone-moved to aWord aSymbol n = falls
-alone-moved to aNumber aSymbol n = falls
-alone-moved to aSymbol j n = falls
 
 -- a word, or a number, alone
 name-moved : (to : ℕ → ℕ) (k : Kind) (a : Arg) → Moves to (moveName to) (nameOf k (moveArg to a)) (nameOf k a)

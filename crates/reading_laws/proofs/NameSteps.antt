@@ -37,7 +37,6 @@ part-names taken.oneName = among-all _
 part-names taken.someNames = among-all _
 part-names taken.aName = among-all _
 part-names taken.oneValue = among-all _
-part-names taken.symbolValue = among-all _
 part-names taken.someValues = among-all _
 
 others-names : {limit : ℕ} {bs : List Arg} {ps : List Part} → Others limit bs ps → Among (partsNames ps) (argsNames bs)
@@ -104,9 +103,6 @@ turned-named case.firstNumber = goes (among-all _)
 turned-named (case.emptyArray {c}) = goes (among-same (append-nil (callNames c)))
 turned-named (case.nextWord {c} {items} few) = goes (among-same (items-more c items _))
 turned-named (case.nextNumber {c} {items} few) = goes (among-same (items-more c items _))
-turned-named (case.firstAt {c}) = goes (among-same (append-nil (callNames c)))
-turned-named case.nextAt = goes (among-all _)
-turned-named (case.itemSymbol {c} {items} few) = goes (among-same (items-more c items _))
 turned-named case.itemComma = goes (among-all _)
 turned-named case.anArray = goes (among-all _)
 turned-named (case.argumentComma {args} {a}) = goes (among-same (args-more args a))

@@ -2,14 +2,14 @@
 -- Assumes nothing.
 use Prim.Native.Nat.{ℕ}
 use mathlib.Core.Path.{_≡_, refl}
-use mathlib.Core.Bool.{Bool, true, false, cond, _&&_}
+use mathlib.Core.Bool.{Bool, true, false, cond}
 use mathlib.Core.List.{List, [], _∷_, _++_, map, map-append}
 use lib.Dec.{ltb}
 use lib.ListN.{length, length-map}
 use Rattle.text.specs.Bytes.{bytes, is}
 use Rattle.tokens.specs.Token.{Shape, word, number, mark}
 use Rattle.labels.specs.Word.{sameWord}
-use Rattle.reading.specs.Statement.{Name, Kind, aWord, aNumber, aSymbol, Item, Feature}
+use Rattle.reading.specs.Statement.{Name, Kind, aWord, aNumber, Item, Feature}
 use Rattle.reading.specs.Answer.{Answer, accepted, refused}
 use Rattle.reading.specs.Argument.{Arg, star, plus, single, array, rangeOf, itemsOf}
 use Rattle.reading.specs.Feature.{buildFeature}
@@ -29,7 +29,6 @@ use Rattle.reading.specs.Syntax.{
   rangeOpen,
   arrayOpen,
   item,
-  itemAt,
   itemRead,
   argumentRead,
   Step,
@@ -45,8 +44,6 @@ use Rattle.reading.specs.Syntax.{
   comma,
   empty,
   entered,
-  isLetCall,
-  itemSign,
   rangeRead,
   afterArgument,
   turn,
@@ -112,22 +109,11 @@ empty-moved to limit o (letCall n) = refl
 
 -- one more item of an array
 entered-moved :
-    (to : ℕ → ℕ) (c : Call) (p : ℕ) (is : List Item) (q : ℕ) (k : Kind) (o : ℕ) (w : List ℕ)
-    → entered (moveCall to c) (to p) (map (moveItem to) is) (to q) k (to o) w ≡ moveStep to (entered c p is q k o w)
-entered-moved to c p is q k o w =
+    (to : ℕ → ℕ) (c : Call) (p : ℕ) (is : List Item) (k : Kind) (o : ℕ) (w : List ℕ)
+    → entered (moveCall to c) (to p) (map (moveItem to) is) k (to o) w ≡ moveStep to (entered c p is k o w)
+entered-moved to c p is k o w =
     rw (length-map is (moveItem to))
-    (either (moveStep to) (ltb (length is) 64) (more (itemRead c p (is ++ itemAs k o w ∷ []))) (stop 11 q) (simp map-append) refl)
-
--- the `@` of an item, which only a LET has
-let-call-moved : (to : ℕ → ℕ) (c : Call) → isLetCall (moveCall to c) ≡ isLetCall c
-let-call-moved to (featureCall k m args) = refl
-let-call-moved to (letCall n) = refl
-
-item-sign-moved :
-    (to : ℕ → ℕ) (c : Call) (p : ℕ) (items : List Item) (o m : ℕ)
-    → itemSign (moveCall to c) (to p) (map (moveItem to) items) (to o) m ≡ moveStep to (itemSign c p items o m)
-item-sign-moved to c p items o m =
-    rw (let-call-moved to c) (unless to (is "@" m && isLetCall c) (more (itemAt c p items o)) o refl)
+    (either (moveStep to) (ltb (length is) 64) (more (itemRead c p (is ++ itemAs k o w ∷ []))) (stop 11 o) (simp map-append) refl)
 
 -- a mark after an argument
 after-argument-moved :
@@ -178,16 +164,12 @@ turn-moved to limit (rangeOpen c n) o (word w) = refl
 turn-moved to limit (rangeOpen c n) o (number w) =
     range-read-moved to c (rangeOf limit n (name o w)) (range-moved to limit n (name o w))
 turn-moved to limit (rangeOpen c n) o (mark m) = refl
-turn-moved to limit (arrayOpen c p) o (word w) = entered-moved to c p [] o aWord o w
-turn-moved to limit (arrayOpen c p) o (number w) = entered-moved to c p [] o aNumber o w
-turn-moved to limit (arrayOpen c p) o (mark m) =
-    either (moveStep to) (is "]" m) (more (argumentRead c (array p []))) _ refl (item-sign-moved to c p [] o m)
-turn-moved to limit (item c p is) o (word w) = entered-moved to c p is o aWord o w
-turn-moved to limit (item c p is) o (number w) = entered-moved to c p is o aNumber o w
-turn-moved to limit (item c p is) o (mark m) = item-sign-moved to c p is o m
-turn-moved to limit (itemAt c p is q) o (word w) = entered-moved to c p is q aSymbol o w
-turn-moved to limit (itemAt c p is q) o (number w) = refl
-turn-moved to limit (itemAt c p is q) o (mark m) = refl
+turn-moved to limit (arrayOpen c p) o (word w) = entered-moved to c p [] aWord o w
+turn-moved to limit (arrayOpen c p) o (number w) = entered-moved to c p [] aNumber o w
+turn-moved to limit (arrayOpen c p) o (mark m) = unless to (is "]" m) (more (argumentRead c (array p []))) o refl
+turn-moved to limit (item c p is) o (word w) = entered-moved to c p is aWord o w
+turn-moved to limit (item c p is) o (number w) = entered-moved to c p is aNumber o w
+turn-moved to limit (item c p is) o (mark m) = refl
 turn-moved to limit (itemRead c p is) o (word w) = refl
 turn-moved to limit (itemRead c p is) o (number w) = refl
 turn-moved to limit (itemRead c p items) o (mark m) =

@@ -13,7 +13,6 @@ use Rattle.labels.specs.declared.Family.{Family}
 use Rattle.labels.specs.Word.{find}
 use Rattle.labels.specs.Label.{labelsOf}
 use Rattle.reading.specs.Statement.{Name, Kind, aWord, aNumber, Item}
-use Rattle.reading.specs.Statement as statement
 use Rattle.reading.specs.Parts.{modesPart, countsPart, operandPart, namePart, valuesPart}
 use Rattle.reading.specs.Answer.{accepted, backwards}
 use Rattle.reading.specs.Argument.{
@@ -64,7 +63,6 @@ use Rattle.reading_laws.specs.Taken.{
   someNames,
   aName,
   oneValue,
-  symbolValue,
   someValues,
 }
 use Rattle.text.proofs.Tests.{both}
@@ -88,7 +86,6 @@ module _ (limit : ℕ) where
   lone-mode-taken : (f : Family) (k : Kind) (n : Name) → Gives (λ ms. TakenAs limit (single (itemOf k n)) (modesPart f ms)) (loneMode f k n)
   lone-mode-taken f aWord n = gives-bind (mode-taken f n) λ m e. given (oneMode e)
   lone-mode-taken f aNumber n = nothing refl
-  lone-mode-taken f statement.aSymbol n = nothing refl
 
   pub modes-taken : (f : Family) (a : Arg) → Gives (λ ms. TakenAs limit a (modesPart f ms)) (modesOf f a)
   unfolding modesOf
@@ -133,7 +130,6 @@ module _ (limit : ℕ) where
   count-item-taken : (o : ℕ) (k : Kind) (n : Name) → Gives (IsCount limit n) (countItem limit o k n)
   count-item-taken o aWord n = nothing refl
   count-item-taken o aNumber n = count-taken n
-  count-item-taken o statement.aSymbol n = nothing refl
 
   count-list-taken : (o : ℕ) (is : List Item) → Gives (EachTaken (IsCount limit) is) (countList limit o is)
   unfolding countList
@@ -144,7 +140,6 @@ module _ (limit : ℕ) where
   lone-count-taken : (k : Kind) (n : Name) → Gives (λ c. TakenAs limit (single (itemOf k n)) (countsPart c)) (loneCount limit k n)
   lone-count-taken aWord n = nothing refl
   lone-count-taken aNumber n = gives-bind (count-taken n) λ v e. given (oneCount e)
-  lone-count-taken statement.aSymbol n = nothing refl
 
   pub counts-taken : (a : Arg) → Gives (λ c. TakenAs limit a (countsPart c)) (countsOf limit a)
   unfolding countsOf
@@ -171,7 +166,7 @@ module _ (limit : ℕ) where
   unfolding itemsOf
   values-taken (star o) = nothing refl
   values-taken (plus o) = nothing refl
-  values-taken (symbol o n) = given symbolValue
+  values-taken (symbol o n) = nothing refl
   values-taken (single i) = given oneValue
   values-taken (range o a b) = nothing refl
   values-taken (array o []) = nothing refl
@@ -184,11 +179,8 @@ module _ (limit : ℕ) where
   alone-taken : (k j : Kind) (n : Name) → Gives (Alone k (single (itemOf j n))) (alone k j n)
   alone-taken aWord aWord n = given (aName, λ w. w)
   alone-taken aWord aNumber n = nothing refl
-  alone-taken aWord statement.aSymbol n = nothing refl
   alone-taken aNumber aWord n = nothing refl
   alone-taken aNumber aNumber n = given (aName, λ w. w)
-  alone-taken aNumber statement.aSymbol n = nothing refl
-  alone-taken statement.aSymbol j n = nothing refl
 
   pub name-taken : (k : Kind) (a : Arg) → Gives (Alone k a) (nameOf k a)
   unfolding nameOf

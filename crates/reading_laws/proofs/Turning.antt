@@ -3,7 +3,7 @@
 use Prim.Native.Nat.{ℕ, _<_}
 use native.Mathlib.Omega.{arith}
 use mathlib.Core.Path.{_≡_, refl, subst}
-use mathlib.Core.Bool.{Bool, true, false, cond, _&&_}
+use mathlib.Core.Bool.{Bool, true, false, cond}
 use mathlib.Core.List.{List, [], _∷_, _++_}
 use borrow.Author.Tests.{ltb-true}
 use lib.Dec.{ltb}
@@ -32,7 +32,6 @@ use Rattle.reading.specs.Syntax.{
   rangeOpen,
   arrayOpen,
   item,
-  itemAt,
   itemRead,
   argumentRead,
   Step,
@@ -46,7 +45,6 @@ use Rattle.reading.specs.Syntax.{
   closed,
   comma,
   empty,
-  isLetCall,
   rangeRead,
   afterArgument,
   turn,
@@ -99,12 +97,12 @@ module _ {limit : ℕ} {s : State} {o : ℕ} {x : Shape} where
 
   -- one more item of an array
   entered-turned :
-      (items : List Item) (q : ℕ) {y : Step}
+      (items : List Item) {y : Step}
       → (length items < 64 → Turned limit s o x y)
-      → Turned limit s o x (cond (ltb (length items) 64) y (overfull q))
-  entered-turned items q {y} h = go (ltb (length items) 64) refl
+      → Turned limit s o x (cond (ltb (length items) 64) y (overfull o))
+  entered-turned items {y} h = go (ltb (length items) 64) refl
     where
-      go : (t : Bool) → ltb (length items) 64 ≡ t → Turned limit s o x (cond t y (overfull q))
+      go : (t : Bool) → ltb (length items) 64 ≡ t → Turned limit s o x (cond t y (overfull o))
       go true e = h (ltb-true (length items) 64 e)
       go false e = case.refusing refl
 
@@ -192,14 +190,10 @@ turning limit (rangeOpen c n) o (number w) = range-turned c n (range-taken limit
 turning limit (rangeOpen c n) o (mark m) = case.refusing refl
 turning limit (arrayOpen c p) o (word w) = case.firstWord
 turning limit (arrayOpen c p) o (number w) = case.firstNumber
-turning limit (arrayOpen c p) o (mark m) =
-    either (is "]" m) case.emptyArray (either (is "@" m && isLetCall c) case.firstAt (case.refusing refl))
-turning limit (item c p items) o (word w) = entered-turned items o case.nextWord
-turning limit (item c p items) o (number w) = entered-turned items o case.nextNumber
-turning limit (item c p items) o (mark m) = either (is "@" m && isLetCall c) case.nextAt (case.refusing refl)
-turning limit (itemAt c p items q) o (word w) = entered-turned items q case.itemSymbol
-turning limit (itemAt c p items q) o (number w) = case.refusing refl
-turning limit (itemAt c p items q) o (mark m) = case.refusing refl
+turning limit (arrayOpen c p) o (mark m) = either (is "]" m) case.emptyArray (case.refusing refl)
+turning limit (item c p items) o (word w) = entered-turned items case.nextWord
+turning limit (item c p items) o (number w) = entered-turned items case.nextNumber
+turning limit (item c p items) o (mark m) = case.refusing refl
 turning limit (itemRead c p items) o (word w) = case.refusing refl
 turning limit (itemRead c p items) o (number w) = case.refusing refl
 turning limit (itemRead c p items) o (mark m) = either (is "," m) case.itemComma (either (is "]" m) case.anArray (case.refusing refl))

@@ -13,7 +13,7 @@ use Rattle.text.proofs.Tests.{and-left, and-right, both}
 use Rattle.labels.specs.declared.Family.{Family}
 use Rattle.labels.specs.Label.{labelsOf}
 use Rattle.labels.proofs.Finding.{found-at}
-use Rattle.reading.specs.Statement.{Name, Kind, aWord, aNumber, aSymbol, Item}
+use Rattle.reading.specs.Statement.{Name, Kind, aWord, aNumber, Item}
 use Rattle.reading.specs.Parts.{Part}
 use Rattle.reading.specs.Argument.{Arg}
 use Rattle.reading_laws.specs.WellFormed.{upTo64, oneTo64, spelledAs, wellNamed, wellItem, isPlace, withinLimit, wellPart, wellArg}
@@ -27,7 +27,6 @@ use Rattle.reading_laws.proofs.Places.{places-well}
 pub item-named : (k : Kind) (n : Name) → spelledAs k n ≡ true → wellNamed n ≡ true
 item-named aWord n e = simp e
 item-named aNumber n e = simp (e, or-true)
-item-named aSymbol n e = simp e
 
 items-named : (is : List Item) → all wellItem is ≡ true → all wellNamed (map (λ x. x .name) is) ≡ true
 items-named [] e = refl
@@ -88,5 +87,4 @@ part-well (taken.oneName {i}) w = both (item-named (i .kind) (i .name) w) refl
 part-well (taken.someNames {i} {is}) w = names-well i is w
 part-well (taken.aName {i}) w = item-named (i .kind) (i .name) w
 part-well taken.oneValue w = both w refl
-part-well taken.symbolValue w = both w refl
 part-well taken.someValues w = w

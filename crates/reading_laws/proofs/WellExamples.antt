@@ -16,7 +16,6 @@ use Rattle.reading.specs.Statement.{
   Kind,
   aWord,
   aNumber,
-  aSymbol,
   Item,
   allModes,
   modes,
@@ -50,7 +49,7 @@ valued k s = record { kind = k; name = named s }
 
 abbrev well : List Statement
 well =
-    Let (named "X") (valued aWord "CL" ∷ valued aNumber "0.5" ∷ valued aSymbol "Y" ∷ [])
+    Let (named "X") (valued aWord "CL" ∷ valued aNumber "0.5" ∷ [])
     ∷ feature (Absorption allModes)
     ∷ feature (Absorption (modes (4 ∷ 0 ∷ [])))
     ∷ feature (Peripherals (count 64) none)
@@ -63,13 +62,12 @@ well =
     ∷ feature (Allometry (named "WT") (some (named "70")))
     ∷ []
 
--- a name that is no word or no number, a symbol that is a number, a list of none or of 65, a mode that is no place or stands twice, a count above the limit, a range
+-- a name that is no word or no number, a list of none or of 65, a mode that is no place or stands twice, a count above the limit, a range
 -- backwards, N with a second argument, `*` for the effects of a COVARIATE without `?`
 abbrev broken : List Statement
 broken =
     Let (named "1X") (valued aWord "CL" ∷ [])
     ∷ Let (named "X") (valued aNumber "CL" ∷ [])
-    ∷ Let (named "X") (valued aSymbol "1" ∷ [])
     ∷ Let (named "X") []
     ∷ Let (named "X") (replicate 65 (valued aWord "CL"))
     ∷ feature (Iiv false (symbol (named "@X")) allModes)

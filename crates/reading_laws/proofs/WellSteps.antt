@@ -81,9 +81,6 @@ module _ (limit : ℕ) where
   turned-well case.emptyArray e h = goes (both h refl)
   turned-well (case.nextWord {c} {items} few) e h = goes (items-more c items _ h few e)
   turned-well (case.nextNumber {c} {items} few) e h = goes (items-more c items _ h few e)
-  turned-well case.firstAt e h = goes (both h refl)
-  turned-well case.nextAt e h = goes h
-  turned-well (case.itemSymbol {c} {items} few) e h = goes (items-more c items _ h few e)
   turned-well case.itemComma e h = goes h
   turned-well case.anArray e h = goes h
   turned-well (case.argumentComma {args} {a}) e h = goes (arguments-more args a h)

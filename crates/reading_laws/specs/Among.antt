@@ -20,7 +20,6 @@ use Rattle.reading.specs.Syntax.{
   rangeOpen,
   arrayOpen,
   item,
-  itemAt,
   itemRead,
   argumentRead,
   name,
@@ -63,7 +62,6 @@ stateNames (numberRead c n) = callNames c ++ n ∷ []
 stateNames (rangeOpen c n) = callNames c ++ n ∷ []
 stateNames (arrayOpen c p) = callNames c
 stateNames (item c p is) = callNames c ++ itemNames is
-stateNames (itemAt c p is q) = callNames c ++ itemNames is
 stateNames (itemRead c p is) = callNames c ++ itemNames is
 stateNames (argumentRead c a) = callNames c ++ argNames a
 

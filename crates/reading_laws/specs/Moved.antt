@@ -61,7 +61,6 @@ use Rattle.reading.specs.Syntax.{
   rangeOpen,
   arrayOpen,
   item,
-  itemAt,
   itemRead,
   argumentRead,
   Step,
@@ -152,7 +151,6 @@ moveState to (numberRead c n) = numberRead (moveCall to c) (moveName to n)
 moveState to (rangeOpen c n) = rangeOpen (moveCall to c) (moveName to n)
 moveState to (arrayOpen c p) = arrayOpen (moveCall to c) (to p)
 moveState to (item c p is) = item (moveCall to c) (to p) (map (moveItem to) is)
-moveState to (itemAt c p is q) = itemAt (moveCall to c) (to p) (map (moveItem to) is) (to q)
 moveState to (itemRead c p is) = itemRead (moveCall to c) (to p) (map (moveItem to) is)
 moveState to (argumentRead c a) = argumentRead (moveCall to c) (moveArg to a)
 

@@ -86,7 +86,6 @@ pub data TakenAs (limit : ℕ) : Arg → Part → Type 0 where
   -- a name alone, and the values of a LET
   aName : {i : Item} → TakenAs limit (single i) (namePart (i .name))
   oneValue : {i : Item} → TakenAs limit (single i) (valuesPart (i ∷ []))
-  symbolValue : {o : ℕ} {n : Name} → TakenAs limit (symbol o n) (valuesPart (itemOf statement.aSymbol n ∷ []))
   someValues : {o : ℕ} {i : Item} {is : List Item} → TakenAs limit (array o (i ∷ is)) (valuesPart (i ∷ is))
 
 -- those after the first

@@ -9,7 +9,6 @@ use Rattle.text.specs.Bytes.{bytes, is}
 use Rattle.tokens.specs.Token.{Shape, word, number, mark}
 use Rattle.labels.specs.Word.{sameWord}
 use Rattle.reading.specs.Statement.{Name, aWord, aNumber, Item, Feature, Statement, Let, feature}
-use Rattle.reading.specs.Statement as statement
 use Rattle.reading.specs.Parts.{valuesPart}
 use Rattle.reading.specs.Answer.{accepted}
 use Rattle.reading.specs.Argument.{Arg, star, plus, symbol, single, array}
@@ -30,7 +29,6 @@ use Rattle.reading.specs.Syntax.{
   rangeOpen,
   arrayOpen,
   item,
-  itemAt,
   itemRead,
   argumentRead,
   Step,
@@ -102,13 +100,6 @@ pub data Turned (limit : ℕ) : State → ℕ → Shape → Step → Type 0 wher
       {c : Call} {p o : ℕ} {items : List Item} {w : List ℕ}
       → length items < 64
       → Turned limit (item c p items) o (number w) (more (itemRead c p (items ++ itemAs aNumber o w ∷ [])))
-  -- a symbol among the items of a LET: its `@` and its word
-  firstAt : {c : Call} {p o m : ℕ} → Turned limit (arrayOpen c p) o (mark m) (more (itemAt c p [] o))
-  nextAt : {c : Call} {p o m : ℕ} {items : List Item} → Turned limit (item c p items) o (mark m) (more (itemAt c p items o))
-  itemSymbol :
-      {c : Call} {p q o : ℕ} {items : List Item} {w : List ℕ}
-      → length items < 64
-      → Turned limit (itemAt c p items q) o (word w) (more (itemRead c p (items ++ itemAs statement.aSymbol o w ∷ [])))
   itemComma : {c : Call} {p o m : ℕ} {items : List Item} → Turned limit (itemRead c p items) o (mark m) (more (item c p items))
   anArray :
       {c : Call} {p o m : ℕ} {items : List Item} → Turned limit (itemRead c p items) o (mark m) (more (argumentRead c (array p items)))

@@ -16,7 +16,6 @@ use Rattle.reading.specs.Statement.{
   Kind,
   aWord,
   aNumber,
-  aSymbol,
   Item,
   Modes,
   allModes,
@@ -81,7 +80,6 @@ use Rattle.reading.specs.Syntax.{
   rangeOpen,
   arrayOpen,
   item,
-  itemAt,
   itemRead,
   argumentRead,
 }
@@ -101,7 +99,6 @@ oneTo64 p (x ∷ xs) = upTo64 p (x ∷ xs)
 abbrev pub spelledAs : Kind → Name → Bool
 spelledAs aWord n = isWord (n .spelling)
 spelledAs aNumber n = isNumber (n .spelling)
-spelledAs aSymbol n = isWord (n .spelling)
 
 abbrev pub wellNamed : Name → Bool
 wellNamed n = isName (n .spelling)
@@ -217,7 +214,6 @@ wellState limit (numberRead c n) = wellCall limit c && isNumber (n .spelling)
 wellState limit (rangeOpen c n) = wellCall limit c && isNumber (n .spelling)
 wellState limit (arrayOpen c p) = wellCall limit c
 wellState limit (item c p is) = wellCall limit c && upTo64 wellItem is
-wellState limit (itemAt c p is q) = wellCall limit c && upTo64 wellItem is
 wellState limit (itemRead c p is) = wellCall limit c && upTo64 wellItem is
 wellState limit (argumentRead c a) = wellCall limit c && wellArg limit a
 
@@ -230,7 +226,7 @@ wellWhere limit (inside s) = wellState limit s
 
 -- the numbers of faults
 abbrev pub isFault : ℕ → Bool
-isFault n = leb 1 n && leb n 26
+isFault n = leb 1 n && leb n 21
 
 -- a value that is accepted is as said, and what is refused is so by the number of a fault
 pub data Gives {A : Type 0} (P : A → Type 0) : Answer A → Type 0 where

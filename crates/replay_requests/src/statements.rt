@@ -1,4 +1,4 @@
-// A statement's value in words: its keyword, with its `?`, and its arguments. A name is its offset, `+` and its length, a symbol an `@` before them; modes are places in
+// A statement's value in words: its keyword, with its `?`, and its arguments. A name is its offset, `+` and its length; modes are places in
 // their family; lists stand in brackets; an argument that was left out is `-`.
 ghost use Prim.Native.Nat.{_≤_, _<_};
 ghost use lib.ListN.{length};
@@ -8,7 +8,6 @@ ghost use Rattle.read_values.specs.Lists.{namesIn, countsIn, partsLists};
 use read_forms::Counts;
 use read_forms::CovariateOp;
 use read_forms::Item;
-use read_forms::Kind;
 use read_forms::Modes;
 use read_forms::Name;
 use read_forms::Operand;
@@ -36,18 +35,6 @@ fn put_comma(out: &mut [u8], len: usize, more: bool) -> usize {
     len
 }
 
-// An entry of a list: a symbol has its `@` before it.
-fn put_item(out: &mut [u8], len: usize, kind: Kind, name: Name) -> usize {
-    match kind {
-        Kind::Word => put_name(out, len, name),
-        Kind::Number => put_name(out, len, name),
-        Kind::Symbol => {
-            let n = output::put(out, len, b'@');
-            put_name(out, n, name)
-        }
-    }
-}
-
 fn put_names(out: &mut [u8], len: usize, names: [Item; 64], count: usize) -> usize
     requires { ⌜ count ≤ 64 ⌝ }
 {
@@ -55,8 +42,7 @@ fn put_names(out: &mut [u8], len: usize, names: [Item; 64], count: usize) -> usi
     let mut i = 0;
     while i < count {
         let item = names[i];
-        let kind = item.kind;
-        n = put_item(out, n, kind, item.name);
+        n = put_name(out, n, item.name);
         i += 1;
         n = put_comma(out, n, i < count);
     }

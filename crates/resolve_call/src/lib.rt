@@ -24,10 +24,10 @@ pub const WORKING: usize = 2048;
 pub const SHORT: usize = 1024;
 
 // Buffers of full size, with nothing in them. Their contracts name their lengths alone: where they are used, goals would show each of their numbers.
-fn no_lets() -> [u32; 1536]
-    ensures { λ r. ⌜ length r ≡ 1536 ⌝ }
+fn no_lets() -> [u32; 1024]
+    ensures { λ r. ⌜ length r ≡ 1024 ⌝ }
 {
-    [0; 1536]
+    [0; 1024]
 }
 
 fn no_bench() -> [u32; 6656]
@@ -62,7 +62,7 @@ fn resolve_short(
         (now (ground .entry)) room (now (notes .entry))
         (now (ground .exit)) (now (notes .exit)) (now (work .exit)) r ⌝ }
 {
-    let mut lets = [0; 192];
+    let mut lets = [0; 128];
     let mut dropped = [0; 256];
     let mut made = [0; 2048];
     let tally = match resolve_taking::take_text(

@@ -3,4 +3,3 @@ pub mod Standing
 pub mod Sources
 pub mod Bringing
 pub mod Naming
-pub mod PlainLets

@@ -3,24 +3,17 @@
 use mathlib.Core.Path.{_≡_, refl, sym, _∙_, ap, subst}
 use mathlib.Core.Bool.{Bool, true, false, cond}
 use mathlib.Core.List.{List, [], _∷_, map}
-use mathlib.Core.Option.{Option}
-use Prim.Native.Nat.{ℕ, _≤_}
-use native.Mathlib.Omega.{arith}
-use lib.ListN.{length, length-map}
+use Prim.Native.Nat.{ℕ}
 use Rattle.reading.specs.Statement as statement
 use Rattle.reading.specs.Answer.{Answer, accepted}
 use Rattle.resolving.specs.Context.{Context}
 use Rattle.resolving.specs.Handed.{handedContext}
 use Rattle.resolving.specs.Operands.{known, namesOf, held}
-use Rattle.resolving_laws.proofs.Plain.{held-few}
 use Rattle.read_forms.specs.declared.Name.{Name}
 use Rattle.read_forms.specs.declared.Items.{Items}
 use Rattle.read_forms.specs.declared.Operand.{Operand}
 use Rattle.read_forms.specs.declared.Operand.the-variants as operand
-use Rattle.read_forms.specs.Items.{tokensFrom, nameIn, itemsIn}
-use Rattle.read_forms.specs.Fits.{Listed}
-use Rattle.read_forms.proofs.Entries.{entries-length}
-use Rattle.read_forms.proofs.Lists.{items-are}
+use Rattle.read_forms.specs.Items.{nameIn, itemsIn}
 use Rattle.read_forms.specs.Forms.{operandIn}
 use Rattle.resolve_context.specs.declared.Layout.{Layout}
 use Rattle.resolve_context.specs.Lists.{namesIn, Sound, Stands, covariatesOf}
@@ -28,25 +21,10 @@ use Rattle.resolve_context.proofs.Meaning.{parameters-sound, covariates-sound, 
 use Rattle.resolve_symbols.specs.declared.Source.the-variants.{Values, Given}
 use Rattle.resolve_symbols.specs.declared.Listing.the-variants.{Covariates}
 use Rattle.resolve_symbols.specs.declared.Looked.{Looked}
-use Rattle.resolve_symbols.specs.declared.Looked.the-variants.{Names, Let, Unknown}
-use Rattle.resolve_symbols.specs.Sources.{listingNames, lookedAs, LookedFits, Marked, Means}
+use Rattle.resolve_symbols.specs.declared.Looked.the-variants.{Names}
+use Rattle.resolve_symbols.specs.Sources.{lookedAs, Means}
 use Rattle.resolve_symbols.proofs.Sources.{stands-marked}
-use Rattle.resolve_operands.specs.Entries.{targetOf, meaningIn, lookedNames, StandsFor, operandNames, parametersIn, covariatesIn}
-
--- A list of the text has at most 64 names, and a built-in too, so none is too many.
-pub values-few : (s : List ℕ) (is : Items) → Listed s is → length (map (λ i. i .name .spelling) (itemsIn s is)) ≤ 64
-values-few s is l =
-    let e = length-map (itemsIn s is) (λ i. i .name .spelling) in
-    let f = ap length (items-are s is l) in
-    omega (arith, e, f, entries-length (is .count) (tokensFrom s (is .first .at)) (l .are), l .few)
-
-looked-held :
-    (c : Context) (s l : List ℕ) (n : ℕ) (y : Layout) (r : Looked) → Marked c y → LookedFits s n r → (list : List (List ℕ))
-    → held list (lookedNames c s l r) ≡ held list (known (lookedAs c s l r))
-looked-held c s l n y (Names (Values is)) m f list = sym (held-few list (map (λ i. i .name .spelling) (itemsIn s is)) (values-few s is f))
-looked-held c s l n y (Names (Given x)) m f list = sym (held-few list (listingNames c x) (m .few x))
-looked-held c s l n y (Let k) m f list = refl
-looked-held c s l n y Unknown m f list = refl
+use Rattle.resolve_operands.specs.Entries.{targetOf, meaningIn, StandsFor, operandNames, parametersIn, covariatesIn}
 
 -- an operand as the definition has it
 module _ (s l : List ℕ) (n : ℕ) (y : Layout) where
@@ -55,31 +33,27 @@ module _ (s l : List ℕ) (n : ℕ) (y : Layout) where
     pub star-stands : (w : List ℕ) (r : Looked)
         → every ≡ false
         → w ≡ star
-        → Means s l y r (λ c. meaningIn s l n c w)
-        → LookedFits s n r
-        → StandsFor s l y r (operandNames s l n star every operand.Wildcard)
+        → Means s y r (λ c. meaningIn s l n c w)
+        → StandsFor s y r (operandNames s l n star every operand.Wildcard)
     unfolding operandIn
-    star-stands w r e q h f c m list =
-        looked-held c s l n y r m f list ∙ ap (λ (o : Option (List (List ℕ))). held list (known o)) (h c m ∙ ap (meaningIn s l n c) q) ∙ rw e
+    star-stands w r e q h c m = ap known (h c m ∙ ap (meaningIn s l n c) q) ∙ rw e
 
-    pub every-stands : every ≡ true → StandsFor s l y (Names (Given Covariates)) (operandNames s l n star every operand.Wildcard)
+    pub every-stands : every ≡ true → StandsFor s y (Names (Given Covariates)) (operandNames s l n star every operand.Wildcard)
     unfolding operandIn
-    every-stands e c m list = rw e
+    every-stands e c m = rw e
 
   -- the symbol's word as it was spelled
   pub word-stands : (star : Context → Answer (List (List ℕ))) (x : Name) (w : List ℕ) (r : Looked)
       → w ≡ nameIn s x .spelling
-      → Means s l y r (λ c. meaningIn s l n c w)
-      → LookedFits s n r
-      → StandsFor s l y r (λ c. namesOf (meaningIn s l n c) (star c) (operandIn s (operand.Symbol x)))
+      → Means s y r (λ c. meaningIn s l n c w)
+      → StandsFor s y r (λ c. namesOf (meaningIn s l n c) (star c) (operandIn s (operand.Symbol x)))
   unfolding operandIn
-  word-stands star x w r e h f c m list =
-      looked-held c s l n y r m f list ∙ ap (λ (o : Option (List (List ℕ))). held list (known o)) (h c m ∙ ap (meaningIn s l n c) e)
+  word-stands star x w r e h c m = ap known (h c m ∙ ap (meaningIn s l n c) e)
 
   pub names-stand : (star : Context → Answer (List (List ℕ))) (is : Items)
-      → StandsFor s l y (Names (Values is)) (λ c. namesOf (meaningIn s l n c) (star c) (operandIn s (operand.Names is)))
+      → StandsFor s y (Names (Values is)) (λ c. namesOf (meaningIn s l n c) (star c) (operandIn s (operand.Names is)))
   unfolding operandIn
-  names-stand star is c m list = ap (λ (ws : List (List ℕ)). held list (accepted ws)) (spellings-twice (itemsIn s is))
+  names-stand star is c m = ap accepted (spellings-twice (itemsIn s is))
     where
       spellings-twice : (xs : List statement.Item)
           → map (λ i. i .name .spelling) xs ≡ map (λ (x : statement.Name). x .spelling) (map (λ i. i .name) xs)
@@ -87,11 +61,11 @@ module _ (s l : List ℕ) (n : ℕ) (y : Layout) where
       spellings-twice (x ∷ xs) = ap (λ (ws : List (List ℕ)). x .name .spelling ∷ ws) (spellings-twice xs)
 
 -- what stands for an operand stands for one that is equal to it
-pub stands-same : (s l : List ℕ) (y : Layout) (r : Looked) (f : Operand → Context → Answer (List (List ℕ))) {o p : Operand}
+pub stands-same : (s : List ℕ) (y : Layout) (r : Looked) (f : Operand → Context → Answer (List (List ℕ))) {o p : Operand}
     → p ≡ o
-    → StandsFor s l y r (f o)
-    → StandsFor s l y r (f p)
-stands-same s l y r f e h = subst (λ (x : Operand). StandsFor s l y r (f x)) (sym e) h
+    → StandsFor s y r (f o)
+    → StandsFor s y r (f p)
+stands-same s y r f e h = subst (λ (x : Operand). StandsFor s y r (f x)) (sym e) h
 
 module _ (b r : List ℕ) (y : Layout) (st : Stands b r y) where
   -- the list that names are held to
@@ -102,12 +76,12 @@ module _ (b r : List ℕ) (y : Layout) (st : Stands b r y) where
   -- what is looked up, held to that list
   pub operand-held :
       (s l : List ℕ) (n : ℕ) (star : List ℕ) (every : Bool) (o : Operand) (k : Looked)
-      → StandsFor s l y k (operandNames s l n star every o)
-      → held (namesIn b r (targetOf y every)) (lookedNames (handedContext b r) s l k)
+      → StandsFor s y k (operandNames s l n star every o)
+      → held (namesIn b r (targetOf y every)) (known (lookedAs (handedContext b r) s k))
       ≡ cond every (covariatesIn s l n b r o) (parametersIn s l n b r star o)
   operand-held s l n star true o k h =
-      h (handedContext b r) (stands-marked b r y st) (namesIn b r (covariatesOf y))
+      ap (held (namesIn b r (covariatesOf y))) (h (handedContext b r) (stands-marked b r y st))
       ∙ ap (λ (list : List (List ℕ)). held list (operandNames s l n star true o (handedContext b r))) (sym (covariates-are b r y st))
   operand-held s l n star false o k h =
-      h (handedContext b r) (stands-marked b r y st) (namesIn b r (y .parameters))
+      ap (held (namesIn b r (y .parameters))) (h (handedContext b r) (stands-marked b r y st))
       ∙ ap (λ (list : List (List ℕ)). held list (operandNames s l n star false o (handedContext b r))) (sym (parameters-are b r y st))

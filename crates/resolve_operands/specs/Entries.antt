@@ -2,21 +2,21 @@
 use Prim.Native.Nat.{ℕ}
 use mathlib.Core.Path.{_≡_}
 use mathlib.Core.Bool.{Bool, cond}
-use mathlib.Core.List.{List}
+use mathlib.Core.List.{List, map}
+use mathlib.Core.Option.{some}
 use Rattle.reading.specs.Answer.{Answer, accepted, refused}
 use Rattle.resolving.specs.Context.{Context, covariates}
-use Rattle.resolving.specs.Faults.{unknownSymbol}
-use Rattle.resolving.specs.Operands.{known, namesOf, held, parametersOf, covariatesOf}
+use Rattle.resolving.specs.Symbols.{Meaning, lookUp}
+use Rattle.resolving.specs.Operands.{known, namesOf, parametersOf, covariatesOf}
 use Rattle.resolving.specs.Handed.{handedContext}
 use Rattle.read_forms.specs.declared.Operand.{Operand}
 use Rattle.read_forms.specs.Forms.{operandIn}
-use Rattle.resolve_context.specs.declared.Names as context
+use Rattle.resolve_context.specs.declared.Names.{Names}
 use Rattle.resolve_context.specs.declared.Layout.{Layout}
 use Rattle.resolve_context.specs.Lists as layout
 use Rattle.resolve_symbols.specs.declared.Looked.{Looked}
-use Rattle.resolve_symbols.specs.declared.Looked.the-variants.{Names, Let, Unknown}
-use Rattle.resolve_symbols.specs.Sources.{letMeans, sourceList, Marked}
-pub use Rattle.resolve_symbols.specs.Sources.{meaningIn}
+use Rattle.resolve_symbols.specs.Lets.{definitionsIn}
+use Rattle.resolve_symbols.specs.Sources.{lookedAs, Marked}
 use Rattle.resolve_operands.specs.declared.Entries.{Entries}
 use Rattle.resolve_operands.specs.declared.Entries.the-variants.{Count, Refused}
 use Rattle.resolve_operands.specs.Picked.{Picked}
@@ -27,18 +27,16 @@ EntriesAs n a is (Count k) = Picked n a is k
 EntriesAs n a is (Refused f) = a ≡ refused f 0
 
 -- the list that names are held to: that of covariates, or the parameters
-abbrev pub targetOf : Layout → Bool → context.Names
+abbrev pub targetOf : Layout → Bool → Names
 targetOf y every = cond every (layout.covariatesOf y) (y .parameters)
 
--- the names of what was looked up: written ones as they are, those of a LET once they are expanded
-abbrev pub lookedNames : Context → List ℕ → List ℕ → Looked → Answer (List (List ℕ))
-lookedNames c s l (Names x) = accepted (sourceList c s x)
-lookedNames c s l (Let k) = known (letMeans s l k c)
-lookedNames c s l Unknown = refused unknownSymbol 0
+-- what symbols mean in a context where a text has so many LETs in the run
+abbrev pub meaningIn : List ℕ → List ℕ → ℕ → Context → Meaning
+meaningIn s l n c = lookUp c (map some (definitionsIn s l n))
 
--- in every context with the layout's marks, what was looked up has these names, to whatever list they are held
-abbrev pub StandsFor : List ℕ → List ℕ → Layout → Looked → (Context → Answer (List (List ℕ))) → Type 0
-StandsFor s l y r f = (c : Context) → Marked c y → (list : List (List ℕ)) → held list (lookedNames c s l r) ≡ held list (f c)
+-- in every context with the layout's marks, what was looked up has these names
+abbrev pub StandsFor : List ℕ → Layout → Looked → (Context → Answer (List (List ℕ))) → Type 0
+StandsFor s y r f = (c : Context) → Marked c y → known (lookedAs c s r) ≡ f c
 
 module _ (s l : List ℕ) (n : ℕ) where
   -- the names of `*`: every covariate, or those of a word that is looked up

@@ -7,13 +7,12 @@ ghost use Prim.Native.Nat.{_+_, _≤_, _<_};
 ghost use lib.ListN.{length, take};
 ghost use Rattle.tokens.specs.Class.{classTable};
 ghost use Rattle.reading.specs.Answer.{accepted};
-ghost use Rattle.resolving.specs.Operands.{known, held};
+ghost use Rattle.resolving.specs.Operands.{held};
 ghost use Rattle.resolving.specs.Handed.{isHanded, handedContext};
 ghost use Rattle.read_parts.specs.Meaning.{OperandFits};
 ghost use Rattle.resolve_context.specs.Lists.{namesIn, Sound, Stands, covariatesOf, layoutOf};
 ghost use Rattle.resolve_symbols.specs.Lets.{LetsFit};
-ghost use Rattle.resolve_symbols.specs.Sources.{sourceList, letMeans, SourceFits, LookedFits};
-ghost use Rattle.resolve_expanding.specs.Names.{Kept, wordsIn};
+ghost use Rattle.resolve_symbols.specs.Sources.{sourceList, SourceFits, LookedFits};
 ghost use Rattle.resolve_operands.specs.Picked.{standsIn, withIndex};
 ghost use Rattle.resolve_symbols.specs.Brings.{namedAs, NamedFits};
 ghost use Rattle.resolve_operands.specs.Named.{extentOf, EntryAt, NameHere, PlacedAs};
@@ -23,8 +22,6 @@ use read_forms::Operand;
 use resolve_context::Found;
 use resolve_context::Layout;
 use resolve_context::Names;
-use resolve_expanding::Expanded;
-use resolve_expanding::KeptNames;
 use resolve_symbols::Listing;
 use resolve_symbols::Looked;
 use resolve_symbols::Named;
@@ -36,8 +33,6 @@ use tokens::Cursor;
 pub const UNKNOWN_SYMBOL: u8 = 14;
 
 pub const UNKNOWN_NAME: u8 = 15;
-
-pub const TOO_MANY_NAMES: u8 = 26;
 
 // What an entry of a source brings, and the cursor behind it where it stands in the text.
 struct NextName {
@@ -201,101 +196,6 @@ fn hold(
     Entries::Count(n)
 }
 
-// The names that an expansion kept, each held to a list, or that one is not there.
-fn hold_names(
-    text: &[u8],
-    block: &[u8],
-    lists: &[u32],
-    names: &KeptNames,
-    count: usize,
-    target: Names,
-    indexes: &mut [u8; 64],
-) -> Entries
-    requires { ⌜ Kept (now text) (now block) (now names) count × (count ≤ 64) × Sound (now block) (now lists) target × (length (now indexes) ≡ 64) ⌝ }
-    ensures { λ r. ⌜ EntriesAs (target .count) (held (namesIn (now (block .entry)) (now (lists .entry)) target)
-        (accepted (wordsIn (now (text .entry)) (now (block .entry)) (now (names .entry)) count))) (now (indexes .exit)) r ⌝ }
-{
-    let mut n = 0;
-    let mut i = 0;
-    while i < count {
-        let named = resolve_expanding::named_at(names, i);
-        match place_of(text, block, lists, target, named) {
-            Placed::At(place) => {
-                n = push_index(indexes, n, place as u8);
-                i += 1;
-            }
-            Placed::Missing => {
-                return Entries::Refused(UNKNOWN_NAME);
-            }
-            Placed::NoName => {
-                i += 1;
-            }
-        }
-    }
-    Entries::Count(n)
-}
-
-// An array for the names of an expansion. Its contract names its length alone: where it is used, goals would show each of its numbers.
-fn no_names() -> KeptNames
-    ensures { λ r. ⌜ length r ≡ 192 ⌝ }
-{
-    [0; 192]
-}
-
-// The names of a LET that cites others, held to a list. All is expanded first: an unknown symbol comes before too many names, and these before a
-// name that is not in the list.
-fn hold_expanded(
-    text: &[u8],
-    classes: &Classes,
-    block: &[u8],
-    lists: &[u32],
-    layout: Layout,
-    lets: &[u32],
-    k: usize,
-    target: Names,
-    indexes: &mut [u8; 64],
-) -> Entries
-    requires { ⌜ (now classes ≡ classTable) × Stands (now block) (now lists) layout × LetsFit (now text) (now lets) (k + 1)
-        × Sound (now block) (now lists) target × (length (now indexes) ≡ 64) ⌝ }
-    ensures { λ r. ⌜ EntriesAs (target .count) (held (namesIn (now (block .entry)) (now (lists .entry)) target)
-        (known (letMeans (now (text .entry)) (now (lets .entry)) k (handedContext (now (block .entry)) (now (lists .entry)))))) (now (indexes .exit)) r ⌝ }
-{
-    let mut names = no_names();
-    let Expanded::Count(count) =
-        resolve_expanding::expand(text, classes, block, lists, layout, lets, k, &mut names)
-    else {
-        return Entries::Refused(UNKNOWN_SYMBOL);
-    };
-    if resolve_expanding::MOST < count {
-        return Entries::Refused(TOO_MANY_NAMES);
-    }
-    hold_names(text, block, lists, &names, count, target, indexes)
-}
-
-// The names of a LET, held to a list. Where no value is a symbol they are held as they stand, so that no array of pairs is made of them.
-fn hold_let(
-    text: &[u8],
-    classes: &Classes,
-    block: &[u8],
-    lists: &[u32],
-    layout: Layout,
-    lets: &[u32],
-    k: usize,
-    target: Names,
-    indexes: &mut [u8; 64],
-) -> Entries
-    requires { ⌜ (now classes ≡ classTable) × Stands (now block) (now lists) layout × LetsFit (now text) (now lets) (k + 1)
-        × Sound (now block) (now lists) target × (length (now indexes) ≡ 64) ⌝ }
-    ensures { λ r. ⌜ EntriesAs (target .count) (held (namesIn (now (block .entry)) (now (lists .entry)) target)
-        (known (letMeans (now (text .entry)) (now (lets .entry)) k (handedContext (now (block .entry)) (now (lists .entry)))))) (now (indexes .exit)) r ⌝ }
-{
-    if resolve_symbols::is_citing(text, lets, k) {
-        return hold_expanded(text, classes, block, lists, layout, lets, k, target, indexes);
-    }
-    let source = Source::Values(resolve_symbols::values_at(lets, k));
-    hold(text, classes, block, lists, layout, source, target, indexes)
-}
-
 // The list that names are held to: that of covariates, or the parameters.
 fn target_of(layout: Layout, every: bool) -> Names
     ensures { λ r. ⌜ r ≡ targetOf layout every ⌝ }
@@ -319,8 +219,8 @@ fn source_of<'a>(
     operand: Operand,
 ) -> Looked
     requires { ⌜ LetsFit (now text) (now lets) n × OperandFits (now text) operand ⌝ }
-    ensures { λ r. ⌜ LookedFits (now (text .entry)) n r
-        × StandsFor (now (text .entry)) (now (lets .entry)) layout r
+    ensures { λ r. ⌜ LookedFits (now (text .entry)) r
+        × StandsFor (now (text .entry)) layout r
         (operandNames (now (text .entry)) (now (lets .entry)) n (now (star .entry)) every operand) ⌝ }
 {
     let word = match operand {
@@ -358,15 +258,10 @@ fn operand_entries<'a>(
 {
     let layout = resolve_context::read_layout(lists);
     let target = target_of(layout, every);
-    match source_of(text, lets, n, layout, star, every, operand) {
-        Looked::Names(source) => {
-            hold(text, classes, block, lists, layout, source, target, indexes)
-        }
-        Looked::Let(k) => {
-            hold_let(text, classes, block, lists, layout, lets, k, target, indexes)
-        }
-        Looked::Unknown => Entries::Refused(UNKNOWN_SYMBOL),
-    }
+    let Looked::Names(source) = source_of(text, lets, n, layout, star, every, operand) else {
+        return Entries::Refused(UNKNOWN_SYMBOL);
+    };
+    hold(text, classes, block, lists, layout, source, target, indexes)
 }
 
 // The parameters of an operand, as indexes of the context's.

@@ -8,15 +8,15 @@ use Prim.Native.Nat.{ℕ, zero, suc, _+_, _*_, _-_, _≤_, _<_}
 use native.Mathlib.Numerals.{add-one}
 use native.Mathlib.Omega.{arith}
 use borrow.Author.Tests.{leb-true, leb-false}
-use lib.Dec.{leb, lit≤}
-use lib.ListN.{length, getD, set, length-set}
-use lib.Seq.{getD-set-same, getD-set-other}
+use lib.Dec.{leb}
+use lib.ListN.{length, getD, set, drop, length-set}
+use lib.Seq.{getD-set-same, getD-set-other, drop-set-lt}
 use Rattle.labels.specs.Word.{sameWord}
 use Rattle.labels.proofs.Words.{same-sym}
 use Rattle.reading.specs.Statement.{Item}
 use Rattle.resolving.specs.Context.{Context}
 use Rattle.resolving.specs.Builtins.{builtin}
-use Rattle.resolving.specs.Symbols.{Definition, definition, valueOf, Meaning, valuesMean, letting, meaningAfter, lookUp}
+use Rattle.resolving.specs.Symbols.{Definition, definition, Meaning, letting, meaningAfter, lookUp}
 use Rattle.text.proofs.Bools.{equally}
 use Rattle.text.proofs.Appended.{any-append, map-append}
 use Rattle.read_forms.specs.declared.Name.{Name}
@@ -27,8 +27,7 @@ use Rattle.resolve_context.specs.Lists.{foundAs}
 use Rattle.resolve_context.proofs.Places.{found-at, found-nowhere}
 use Rattle.resolve_context.specs.declared.Found.{Found}
 use Rattle.resolve_context.specs.declared.Found.the-variants.{Place, Nothing}
-use Rattle.resolve_symbols.specs.Lets.{keyAt, valuesAt, definitionAt, definitionsIn, lastLet, hasKey, citing, markOf, LetsFit, LetPut}
-use Rattle.resolve_symbols.specs.Sources.{meaningIn, letMeans}
+use Rattle.resolve_symbols.specs.Lets.{keyAt, valuesAt, definitionAt, definitionsIn, lastLet, hasKey, LetsFit, LetPut}
 
 abbrev isThere : Option ℕ → Bool
 isThere none = false
@@ -106,15 +105,13 @@ meaning-last : (look : Meaning) (ds : List (Option Definition)) (d : Option Defi
 meaning-last look [] d w = refl
 meaning-last look (x ∷ ds) d w = meaning-last (letting look x) ds d w
 
--- What a symbol stands for: what the last LET's values mean to the LETs before it, or what it stands for without one.
-abbrev after : Meaning → List ℕ → List ℕ → ℕ → Meaning
-after look s l n = meaningAfter look (map some (definitionsIn s l n))
+-- What a symbol stands for: the last LET's values, or what it stands for without one.
+abbrev valuesOr : List ℕ → List ℕ → Option (List (List ℕ)) → Option ℕ → Option (List (List ℕ))
+valuesOr s l m none = m
+valuesOr s l m (some k) = some (definitionAt s l k .values)
 
-abbrev valuesOr : Meaning → List ℕ → List ℕ → Option (List (List ℕ)) → Option ℕ → Option (List (List ℕ))
-valuesOr look s l m none = m
-valuesOr look s l m (some k) = valuesMean (after look s l k) (definitionAt s l k .values)
-
-look-last : (look : Meaning) (s l w : List ℕ) (n : ℕ) → after look s l n w ≡ valuesOr look s l (look w) (lastLet s l n w)
+look-last : (look : Meaning) (s l w : List ℕ) (n : ℕ)
+    → meaningAfter look (map some (definitionsIn s l n)) w ≡ valuesOr s l (look w) (lastLet s l n w)
 unfolding definitionsIn lastLet
 look-last look s l w zero = refl
 look-last look s l w (suc n) =
@@ -122,116 +119,93 @@ look-last look s l w (suc n) =
     ∙ meaning-last look (map some (definitionsIn s l n)) (some (definitionAt s l n)) w
     ∙ by-test (sameWord w (definitionAt s l n .key)) (look-last look s l w n)
   where
-    by-test : (t : Bool) → after look s l n w ≡ valuesOr look s l (look w) (lastLet s l n w)
-        → cond t (valuesMean (after look s l n) (definitionAt s l n .values)) (after look s l n w)
-        ≡ valuesOr look s l (look w) (cond t (some n) (lastLet s l n w))
+    by-test : (t : Bool) → meaningAfter look (map some (definitionsIn s l n)) w ≡ valuesOr s l (look w) (lastLet s l n w)
+        → cond t (some (definitionAt s l n .values)) (meaningAfter look (map some (definitionsIn s l n)) w)
+        ≡ valuesOr s l (look w) (cond t (some n) (lastLet s l n w))
     by-test true h = refl
     by-test false h = h
 
 module _ (c : Context) (s l w : List ℕ) (n : ℕ) where
-  pub look-builtin : lastLet s l n w ≡ none → meaningIn s l n c w ≡ builtin c w
+  pub look-builtin : lastLet s l n w ≡ none → lookUp c (map some (definitionsIn s l n)) w ≡ builtin c w
   unfolding lookUp
-  look-builtin e = look-last (builtin c) s l w n ∙ ap (valuesOr (builtin c) s l (builtin c w)) e
+  look-builtin e = look-last (builtin c) s l w n ∙ ap (valuesOr s l (builtin c w)) e
 
-  pub look-let : (k : ℕ) → lastLet s l n w ≡ some k → meaningIn s l n c w ≡ letMeans s l k c
+  pub look-let : (k : ℕ) → lastLet s l n w ≡ some k → lookUp c (map some (definitionsIn s l n)) w ≡ some (definitionAt s l k .values)
   unfolding lookUp
-  look-let k e = look-last (builtin c) s l w n ∙ ap (valuesOr (builtin c) s l (builtin c w)) e
+  look-let k e = look-last (builtin c) s l w n ∙ ap (valuesOr s l (builtin c w)) e
 
 -- No LET yet, and one more.
 
 pub no-lets : (s l : List ℕ) → LetsFit s l 0
-no-lets s l =
-    record {
-      room = omega arith;
-      few = omega arith;
-      keys = λ k h. absurd (omega arith);
-      values = λ k h. absurd (omega arith);
-      marks = λ k h. absurd (omega arith);
-    }
+no-lets s l = record { room = omega arith; few = omega arith; keys = λ k h. absurd (omega arith); values = λ k h. absurd (omega arith) }
 
-abbrev six : List ℕ → ℕ → ℕ → ℕ → ℕ → ℕ → ℕ → ℕ → List ℕ
-six l i a b c d e f = set (set (set (set (set (set l i a) (i + 1) b) (i + 2) c) (i + 3) d) (i + 4) e) (i + 5) f
+abbrev four : List ℕ → ℕ → ℕ → ℕ → ℕ → ℕ → List ℕ
+four l i a b c d = set (set (set (set l i a) (i + 1) b) (i + 2) c) (i + 3) d
 
-module _ (l : List ℕ) (i a b c d e f : ℕ) where
-  six-size : length (six l i a b c d e f) ≡ length l
-  six-size = simp length-set
+module _ (l : List ℕ) (i a b c d : ℕ) where
+  four-size : length (four l i a b c d) ≡ length l
+  four-size = simp length-set
 
-  six-before : (j : ℕ) → j < i → getD (six l i a b c d e f) j 0 ≡ getD l j 0
-  six-before j h =
+  four-before : (j : ℕ) → j < i → getD (four l i a b c d) j 0 ≡ getD l j 0
+  four-before j h =
       let p : j ≡ i → ⊥ = λ e. omega arith in
       let q : j ≡ i + 1 → ⊥ = λ e. omega arith in
       let r : j ≡ i + 2 → ⊥ = λ e. omega arith in
       let t : j ≡ i + 3 → ⊥ = λ e. omega arith in
-      let u : j ≡ i + 4 → ⊥ = λ e. omega arith in
-      let v : j ≡ i + 5 → ⊥ = λ e. omega arith in
-      rw (getD-set-other, getD-set-other, getD-set-other, getD-set-other, getD-set-other, getD-set-other)
+      rw (getD-set-other, getD-set-other, getD-set-other, getD-set-other)
 
-  module _ (h : i + 6 ≤ length l) where
-    six-first : getD (six l i a b c d e f) i 0 ≡ a
-    six-first =
-        let q1 : i ≡ i + 1 → ⊥ = λ e. omega arith in
-        let q2 : i ≡ i + 2 → ⊥ = λ e. omega arith in
-        let q3 : i ≡ i + 3 → ⊥ = λ e. omega arith in
-        let q4 : i ≡ i + 4 → ⊥ = λ e. omega arith in
-        let q5 : i ≡ i + 5 → ⊥ = λ e. omega arith in
+  module _ (h : i + 4 ≤ length l) where
+    four-first : getD (four l i a b c d) i 0 ≡ a
+    four-first =
+        let q : i ≡ i + 1 → ⊥ = λ e. omega arith in
+        let r : i ≡ i + 2 → ⊥ = λ e. omega arith in
+        let t : i ≡ i + 3 → ⊥ = λ e. omega arith in
         let k : i < length l = omega arith in
-        rw (getD-set-other, getD-set-other, getD-set-other, getD-set-other, getD-set-other, getD-set-same)
-
-    six-second : getD (six l i a b c d e f) (i + 1) 0 ≡ b
-    six-second =
-        let q2 : i + 1 ≡ i + 2 → ⊥ = λ e. omega arith in
-        let q3 : i + 1 ≡ i + 3 → ⊥ = λ e. omega arith in
-        let q4 : i + 1 ≡ i + 4 → ⊥ = λ e. omega arith in
-        let q5 : i + 1 ≡ i + 5 → ⊥ = λ e. omega arith in
-        let k : i + 1 < length (set l i a) = rw length-set (omega arith) in
-        rw (getD-set-other, getD-set-other, getD-set-other, getD-set-other, getD-set-same)
-
-    six-third : getD (six l i a b c d e f) (i + 2) 0 ≡ c
-    six-third =
-        let q3 : i + 2 ≡ i + 3 → ⊥ = λ e. omega arith in
-        let q4 : i + 2 ≡ i + 4 → ⊥ = λ e. omega arith in
-        let q5 : i + 2 ≡ i + 5 → ⊥ = λ e. omega arith in
-        let k : i + 2 < length (set (set l i a) (i + 1) b) = simp length-set (omega arith) in
         rw (getD-set-other, getD-set-other, getD-set-other, getD-set-same)
 
-    six-fourth : getD (six l i a b c d e f) (i + 3) 0 ≡ d
-    six-fourth =
-        let q4 : i + 3 ≡ i + 4 → ⊥ = λ e. omega arith in
-        let q5 : i + 3 ≡ i + 5 → ⊥ = λ e. omega arith in
-        let k : i + 3 < length (set (set (set l i a) (i + 1) b) (i + 2) c) = simp length-set (omega arith) in
+    four-second : getD (four l i a b c d) (i + 1) 0 ≡ b
+    four-second =
+        let r : i + 1 ≡ i + 2 → ⊥ = λ e. omega arith in
+        let t : i + 1 ≡ i + 3 → ⊥ = λ e. omega arith in
+        let k : i + 1 < length (set l i a) = rw length-set (omega arith) in
         rw (getD-set-other, getD-set-other, getD-set-same)
 
-    six-fifth : getD (six l i a b c d e f) (i + 4) 0 ≡ e
-    six-fifth =
-        let q5 : i + 4 ≡ i + 5 → ⊥ = λ e. omega arith in
-        let k : i + 4 < length (set (set (set (set l i a) (i + 1) b) (i + 2) c) (i + 3) d) = simp length-set (omega arith) in
+    four-third : getD (four l i a b c d) (i + 2) 0 ≡ c
+    four-third =
+        let t : i + 2 ≡ i + 3 → ⊥ = λ e. omega arith in
+        let k : i + 2 < length (set (set l i a) (i + 1) b) = simp length-set (omega arith) in
         rw (getD-set-other, getD-set-same)
 
-    six-last : getD (six l i a b c d e f) (i + 5) 0 ≡ f
-    six-last =
-        let k : i + 5 < length (set (set (set (set (set l i a) (i + 1) b) (i + 2) c) (i + 3) d) (i + 4) e) = simp length-set (omega arith) in
+    four-last : getD (four l i a b c d) (i + 3) 0 ≡ d
+    four-last =
+        let k : i + 3 < length (set (set (set l i a) (i + 1) b) (i + 2) c) = simp length-set (omega arith) in
         rw getD-set-same
 
--- The run with a LET behind the first n.
-module _ (s l : List ℕ) (n : ℕ) (fit : LetsFit s l n) (few : n < 256) (room : 6 * (n + 1) ≤ length l) where
-  module _ (key : Name) (items : Items) (mark index : ℕ) where
-    abbrev pub withLet : List ℕ
-    withLet = six l (6 * n) (key .offset) (key .length) (items .first .at) (items .count) mark index
+    four-behind : drop (i + 4) (four l i a b c d) ≡ drop (i + 4) l
+    four-behind =
+        let p : i < i + 4 = omega arith in
+        let q : i + 1 < i + 4 = omega arith in
+        let r : i + 2 < i + 4 = omega arith in
+        let t : i + 3 < i + 4 = omega arith in
+        rw (drop-set-lt, drop-set-lt, drop-set-lt, drop-set-lt)
 
-    earlier : (k j : ℕ) → k < n → j < 6 → getD withLet (6 * k + j) 0 ≡ getD l (6 * k + j) 0
-    earlier k j h m = six-before l (6 * n) _ _ _ _ _ _ (6 * k + j) (omega (arith, h, m))
+-- The run with a LET behind the first n.
+module _ (s l : List ℕ) (n : ℕ) (fit : LetsFit s l n) (few : n < 256) (room : 4 * (n + 1) ≤ length l) where
+  module _ (key : Name) (items : Items) where
+    abbrev pub withLet : List ℕ
+    withLet = four l (4 * n) (key .offset) (key .length) (items .first .at) (items .count)
 
     key-before : (k : ℕ) → k < n → keyAt withLet k ≡ keyAt l k
-    key-before k h = rw (six-before l (6 * n) _ _ _ _ _ _ (6 * k) (omega arith), earlier k 1 h (lit≤ tt))
+    key-before k h = rw (four-before l (4 * n) _ _ _ _ (4 * k) (omega arith), four-before l (4 * n) _ _ _ _ (4 * k + 1) (omega arith))
 
     values-before : (k : ℕ) → k < n → valuesAt withLet k ≡ valuesAt l k
-    values-before k h = rw (earlier k 2 h (lit≤ tt), earlier k 3 h (lit≤ tt))
+    values-before k h = rw (four-before l (4 * n) _ _ _ _ (4 * k + 2) (omega arith), four-before l (4 * n) _ _ _ _ (4 * k + 3) (omega arith))
 
     key-own : keyAt withLet n ≡ key
-    key-own = rw (six-first l (6 * n) _ _ _ _ _ _ (omega arith), six-second l (6 * n) _ _ _ _ _ _ (omega arith))
+    key-own = rw (four-first l (4 * n) _ _ _ _ (omega arith), four-second l (4 * n) _ _ _ _ (omega arith))
 
     values-own : valuesAt withLet n ≡ items
-    values-own = rw (six-third l (6 * n) _ _ _ _ _ _ (omega arith), six-fourth l (6 * n) _ _ _ _ _ _ (omega arith))
+    values-own = rw (four-third l (4 * n) _ _ _ _ (omega arith), four-last l (4 * n) _ _ _ _ (omega arith))
 
     definition-before : (k : ℕ) → k < n → definitionAt s withLet k ≡ definitionAt s l k
     definition-before k h =
@@ -243,49 +217,47 @@ module _ (s l : List ℕ) (n : ℕ) (fit : LetsFit s l n) (few : n < 256) (room 
     definitions-before (suc m) h =
         ap₂ (λ (ds : List Definition) (d : Definition). ds ++ d ∷ []) (definitions-before m (omega arith)) (definition-before m h)
 
-    -- what is known of each LET is known of those before, and of the new one
-    each : (P : ℕ → Type 0) → ((k : ℕ) → k < n → P k) → P n → (k : ℕ) → k < n + 1 → P k
-    each P old new k h = by-test (leb n k) refl
-      where
-        by-test : (t : Bool) → leb n k ≡ t → P k
-        by-test true e = let own : n ≡ k = omega (arith, leb-true n k e, h) in subst P own new
-        by-test false e = old k (leb-false n k e)
-
     -- where the key and the values are those of a LET
-    pub let-put :
-        (values : Items) → InText s key → Listed s items → itemsIn s items ≡ itemsIn s values → mark ≡ markOf (citing (itemsIn s values))
-        → LetPut s l withLet n index (definition (nameIn s key) (itemsIn s values))
+    pub let-put : (values : Items) → InText s key → Listed s items → itemsIn s items ≡ itemsIn s values
+        → LetPut s l withLet n (definition (nameIn s key) (itemsIn s values))
     unfolding definitionsIn
-    let-put values inside listed same marked =
+    let-put values inside listed same =
         record {
-          size = six-size l (6 * n) _ _ _ _ _ _;
+          size = four-size l (4 * n) _ _ _ _;
           fit =
               record {
-                room = rw (six-size l (6 * n) (key .offset) (key .length) (items .first .at) (items .count) mark index) room;
+                room = rw (four-size l (4 * n) (key .offset) (key .length) (items .first .at) (items .count)) room;
                 few = omega arith;
-                keys =
-                    each (λ k. InText s (keyAt withLet k)) (λ k h. subst (InText s) (sym (key-before k h)) (fit .keys k h))
-                    (subst (InText s) (sym key-own) inside);
-                values =
-                    each (λ k. Listed s (valuesAt withLet k)) (λ k h. subst (Listed s) (sym (values-before k h)) (fit .values k h))
-                    (subst (Listed s) (sym values-own) listed);
-                marks =
-                    each (λ k. getD withLet (6 * k + 4) 0 ≡ markOf (citing (itemsIn s (valuesAt withLet k))))
-                    (λ k h. earlier k 4 h (lit≤ tt) ∙ fit .marks k h ∙ ap (λ (is : Items). markOf (citing (itemsIn s is))) (sym (values-before k h)))
-                    (six-fifth l (6 * n) _ _ _ _ _ _ (omega arith)
-                    ∙ marked
-                    ∙ ap (λ (is : List Item). markOf (citing is)) (sym (ap (itemsIn s) values-own ∙ same)));
+                keys = λ k h. keys k h (leb n k) refl;
+                values = λ k h. lists k h (leb n k) refl;
               };
           definitions =
               ap (definitionsIn s withLet) (add-one n)
               ∙ ap₂ (λ (ds : List Definition) (d : Definition). ds ++ d ∷ []) (definitions-before n (omega arith)) own;
-          index = six-last l (6 * n) _ _ _ _ _ _ (omega arith);
-          others = λ k h. earlier k 5 h (lit≤ tt);
+          behind =
+              let e : 4 * (n + 1) ≡ 4 * n + 4 = omega arith in
+              rw e (four-behind l (4 * n) _ _ _ _ (omega arith));
         }
       where
         own : definitionAt s withLet n ≡ definition (nameIn s key) (itemsIn s values)
         own =
             ap₂
-            (λ (w : List ℕ) (is : List Item). record { key = w; values = map valueOf is })
+            (λ (w : List ℕ) (is : List Item). record { key = w; values = map (λ i. i .name .spelling) is })
             (ap (λ (m : Name). nameIn s m .spelling) key-own)
             (ap (itemsIn s) values-own ∙ same)
+
+        keys : (k : ℕ) → k < n + 1 → (t : Bool) → leb n k ≡ t → InText s (keyAt withLet k)
+        keys k h true e =
+            let own : k ≡ n = omega (arith, leb-true n k e) in
+            subst (λ (j : ℕ). InText s (keyAt withLet j)) (sym own) (subst (InText s) (sym key-own) inside)
+        keys k h false e =
+            let below : k < n = leb-false n k e in
+            subst (InText s) (sym (key-before k below)) (fit .keys k below)
+
+        lists : (k : ℕ) → k < n + 1 → (t : Bool) → leb n k ≡ t → Listed s (valuesAt withLet k)
+        lists k h true e =
+            let own : k ≡ n = omega (arith, leb-true n k e) in
+            subst (λ (j : ℕ). Listed s (valuesAt withLet j)) (sym own) (subst (Listed s) (sym values-own) listed)
+        lists k h false e =
+            let below : k < n = leb-false n k e in
+            subst (Listed s) (sym (values-before k below)) (fit .values k below)

@@ -4,5 +4,3 @@ pub mod Builtins
 pub mod Tests
 pub mod Brings
 pub mod Sources
-pub mod Passing
-pub mod Late

@@ -1,6 +1,6 @@
 -- All that the entries of a list bring are the names of the context that are taken.
 -- Assumes nothing.
-use mathlib.Core.Path.{_≡_, refl, _∙_, ap, sym, subst}
+use mathlib.Core.Path.{_≡_, refl, _∙_, ap, sym}
 use mathlib.Core.Bool.{Bool, true, false, cond, _&&_, _||_}
 use mathlib.Core.List.{List, [], _∷_, _++_, map, append-assoc, append-nil}
 use mathlib.Core.Option.{Option, Option·map}
@@ -8,7 +8,7 @@ use Prim.Native.Nat.{ℕ, zero, suc, _≤_, _<_}
 use native.Mathlib.Omega.{arith}
 use borrow.Author.Tests.{eqb-true}
 use lib.Dec.{eqb, leb}
-use lib.ListN.{length, getD, drop, length-append, drop-of-length-le}
+use lib.ListN.{length, getD, drop, drop-of-length-le}
 use lib.Seq.{drop-cons}
 use Rattle.text.specs.Bytes.{every}
 use Rattle.text.proofs.Tests.{and-left, and-right}
@@ -19,8 +19,6 @@ use Rattle.resolving.specs.Builtins.{matching, everyRole, ofKind, templated}
 use Rattle.resolving.specs.Given.{onlyIf}
 use Rattle.resolving.specs.Handed.{handedContext}
 use Rattle.text.proofs.Appended.{keep-append}
-use Rattle.labels.specs.Word.{sameWord}
-use Rattle.resolving_laws.proofs.Plain.{keep-fewer}
 use Rattle.resolve_context.specs.declared.Names.{Names}
 use Rattle.resolve_context.specs.declared.Layout.{Layout}
 use Rattle.resolve_context.specs.Kinds.{kindAs}
@@ -49,29 +47,6 @@ use Rattle.resolve_symbols.specs.declared.Listing.{Listing}
 use Rattle.resolve_symbols.specs.declared.Listing.the-variants.{Iiv, Template, TemplateIiv, Nothing, Declared, Covariates}
 use Rattle.resolve_symbols.specs.Sources.{ofRoles, orNone, isSome, listingNames, Marked}
 use Rattle.resolve_symbols.specs.Brings.{fromBinding, fromDeclared, bindingAt, declaredAt, isIiv, fromTemplate, listOf, brings, broughtBy}
-
--- an entry brings at most one name
-matching-one : (ps : List (List ℕ)) (v : List ℕ) → length (matching ps v) ≤ 1
-matching-one [] v = omega arith
-matching-one (p ∷ ps) v = by-test (sameWord v p) (matching-one ps v)
-  where
-    by-test : (t : Bool) → length (matching ps v) ≤ 1 → length (cond t (p ∷ []) (matching ps v)) ≤ 1
-    by-test true h = omega arith
-    by-test false h = h
-
-binding-one : (ps : List (List ℕ)) (p : Binding → Bool) (x : Binding) → length (fromBinding ps p x) ≤ 1
-binding-one ps p x = by-test (p x)
-  where
-    by-test : (t : Bool) → length (cond t (matching ps (x .variable)) []) ≤ 1
-    by-test true = matching-one ps (x .variable)
-    by-test false = omega arith
-
-declared-one : (p : context.Declared → Bool) (x : context.Declared) → length (fromDeclared p x) ≤ 1
-declared-one p x = by-test (p x)
-  where
-    by-test : (t : Bool) → length (cond t (x .name ∷ []) []) ≤ 1
-    by-test true = omega arith
-    by-test false = omega arith
 
 -- what a walk over a list brings
 module _ {A : Type 0} (h : A → List (List ℕ)) (e : ℕ → A) (xs : List A)
@@ -222,6 +197,14 @@ module _ (b l : List ℕ) (y : Layout) (st : Stands b l y) where
   listing-brought (Declared q) = declared-brought (ofKind (kindAs q))
   listing-brought Covariates = names-brought b l (covariatesOf y) ∙ sym (covariates-are b l y st)
 
+  -- what `look_up` asks of a context
+  pub stands-marked : Marked c y
+  stands-marked =
+      record {
+        templated = marked (y .templated) bindings ∙ ap isSome (sym (template-is b l y st));
+        declares = marked (y .declares) covariatesIn ∙ ap isSome (sym (block-is b l y st));
+      }
+
   -- the list has at most 64 entries
   pub list-few : (x : Listing) → listOf y x .count ≤ 64
   list-few Iiv = iiv-sound b l y st .few
@@ -230,26 +213,3 @@ module _ (b l : List ℕ) (y : Layout) (st : Stands b l y) where
   list-few Nothing = omega arith
   list-few (Declared k) = declared-sound b l y st .few
   list-few Covariates = covariates-sound b l y st .few
-
-  -- and each brings at most one name
-  brings-one : (x : Listing) (i : ℕ) → length (brings b l y x i) ≤ 1
-  brings-one Iiv i = omega arith
-  brings-one (Template r) i = binding-one (namesIn b l (y .parameters)) (ofRoles r) (bindingAt b l y i)
-  brings-one TemplateIiv i = omega (arith, keep-fewer (isIiv b l y) (fromTemplate b l y Every i), binding-one (namesIn b l (y .parameters)) (ofRoles Every) (bindingAt b l y i))
-  brings-one Nothing i = omega arith
-  brings-one (Declared q) i = declared-one (ofKind (kindAs q)) (declaredAt b l y i)
-  brings-one Covariates i = omega arith
-
-  brought-few : (x : Listing) (n : ℕ) → length (broughtBy (brings b l y x) n) ≤ n
-  unfolding broughtBy
-  brought-few x zero = omega arith
-  brought-few x (suc n) = omega (arith, length-append (broughtBy (brings b l y x) n) (brings b l y x n), brought-few x n, brings-one x n)
-
-  -- what `look_up` asks of a context
-  pub stands-marked : Marked c y
-  stands-marked =
-      record {
-        templated = marked (y .templated) bindings ∙ ap isSome (sym (template-is b l y st));
-        declares = marked (y .declares) covariatesIn ∙ ap isSome (sym (block-is b l y st));
-        few = λ x. subst (λ (ws : List (List ℕ)). length ws ≤ 64) (listing-brought x) (omega (arith, brought-few x (listOf y x .count), list-few x));
-      }

@@ -1,15 +1,13 @@
 -- What an operand or a symbol stands for: values of a LET, which are in the text, or names of the context, which are in its block. And what
 -- looking a symbol up answers.
-use Prim.Native.Nat.{ℕ, _≤_, _<_}
+use Prim.Native.Nat.{ℕ}
 use mathlib.Core.Bool.{Bool, true, false}
 use mathlib.Core.List.{List, [], _∷_, map}
 use mathlib.Core.Option.{Option, some, none}
 use mathlib.Core.Path.{_≡_}
-use lib.ListN.{length}
 use Rattle.text.specs.Bytes.{bytes}
 use Rattle.text.specs.Lists.{any, keep, sameBytes}
 use Rattle.resolving.specs.Context.{Context, Binding, covariates}
-use Rattle.resolving.specs.Symbols.{Meaning, valuesMean, lookUp}
 use Rattle.resolving.specs.Builtins.{everyRole, absorptionRoles, distributionRoles, templated, declared}
 use Rattle.read_forms.specs.Items.{itemsIn}
 use Rattle.read_forms.specs.Fits.{Listed}
@@ -21,11 +19,8 @@ use Rattle.resolve_symbols.specs.declared.Listing.{Listing}
 use Rattle.resolve_symbols.specs.declared.Listing.the-variants.{Iiv, Template, TemplateIiv, Nothing, Declared, Covariates}
 use Rattle.resolve_symbols.specs.declared.Source.{Source}
 use Rattle.resolve_symbols.specs.declared.Source.the-variants.{Values, Given}
-use Rattle.resolve_symbols.specs.declared.Built.{Built}
-use Rattle.resolve_symbols.specs.declared.Built.the-variants as built
 use Rattle.resolve_symbols.specs.declared.Looked.{Looked}
-use Rattle.resolve_symbols.specs.declared.Looked.the-variants.{Names, Let, Unknown}
-use Rattle.resolve_symbols.specs.Lets.{definitionAt, definitionsIn}
+use Rattle.resolve_symbols.specs.declared.Looked.the-variants.{Names, Unknown}
 
 -- whether a role is one of those that a built-in takes
 abbrev pub roleOf : Roles → List ℕ → Bool
@@ -58,53 +53,34 @@ abbrev pub sourceList : Context → List ℕ → Source → List (List ℕ)
 sourceList c s (Values is) = map (λ i. i .name .spelling) (itemsIn s is)
 sourceList c s (Given x) = listingNames c x
 
--- what symbols mean in a context where a text has so many LETs in the run
-abbrev pub meaningIn : List ℕ → List ℕ → ℕ → Context → Meaning
-meaningIn s l n c = lookUp c (map some (definitionsIn s l n))
-
--- what the values of a LET mean: "where that names a LET, it is an earlier one"
-abbrev pub letMeans : List ℕ → List ℕ → ℕ → Context → Option (List (List ℕ))
-letMeans s l k c = valuesMean (meaningIn s l k c) (definitionAt s l k .values)
-
 -- the names of a symbol, or none
-abbrev pub lookedAs : Context → List ℕ → List ℕ → Looked → Option (List (List ℕ))
-lookedAs c s l Unknown = none
-lookedAs c s l (Names x) = some (sourceList c s x)
-lookedAs c s l (Let k) = letMeans s l k c
+abbrev pub lookedAs : Context → List ℕ → Looked → Option (List (List ℕ))
+lookedAs c s Unknown = none
+lookedAs c s (Names x) = some (sourceList c s x)
 
 -- values can be read again
 abbrev pub SourceFits : List ℕ → Source → Type 0
 SourceFits s (Values is) = Listed s is
 SourceFits s (Given x) = Unit {0}
 
--- a LET is one of so many
-abbrev pub LookedFits : List ℕ → ℕ → Looked → Type 0
-LookedFits s n Unknown = Unit {0}
-LookedFits s n (Names x) = SourceFits s x
-LookedFits s n (Let k) = k < n
+abbrev pub LookedFits : List ℕ → Looked → Type 0
+LookedFits s Unknown = Unit {0}
+LookedFits s (Names x) = SourceFits s x
 
 abbrev pub isSome : {A : Type 0} → Option A → Bool
 isSome none = false
 isSome (some a) = true
 
--- a layout has the marks of a context, whose lists have at most 64 entries
+-- a layout has the marks of a context
 pub record Marked (c : Context) (y : Layout) : Type 0 where
   pub templated : y .templated ≡ isSome (c .template)
   pub declares : y .declares ≡ isSome (c .block)
-  pub few : (x : Listing) → length (listingNames c x) ≤ 64
 
 -- in every context with the layout's marks, an answer's names are these
-abbrev pub Means : List ℕ → List ℕ → Layout → Looked → (Context → Option (List (List ℕ))) → Type 0
-Means s l y r f = (c : Context) → Marked c y → lookedAs c s l r ≡ f c
+abbrev pub Means : List ℕ → Layout → Looked → (Context → Option (List (List ℕ))) → Type 0
+Means s y r f = (c : Context) → Marked c y → lookedAs c s r ≡ f c
 
--- a built-in has nothing of a text, and is no LET
-abbrev pub lookedFor : Built → Looked
-lookedFor (built.Names x) = Names (Given x)
-lookedFor built.Unknown = Unknown
-
-abbrev pub builtAs : Context → Built → Option (List (List ℕ))
-builtAs c (built.Names x) = some (listingNames c x)
-builtAs c built.Unknown = none
-
-pub record BuiltinMeans (y : Layout) (r : Built) (f : Context → Option (List (List ℕ))) : Type 0 where
-  pub means : (c : Context) → Marked c y → builtAs c r ≡ f c
+-- so they are in every text: a built-in has nothing of it
+pub record MeansAnywhere (y : Layout) (r : Looked) (f : Context → Option (List (List ℕ))) : Type 0 where
+  pub fits : (s : List ℕ) → LookedFits s r
+  pub means : (s : List ℕ) → Means s y r f

@@ -2,23 +2,22 @@
 // is a source of names; each of its names is a pair into the text or into the context's block before it becomes an index (`resolve_operands`).
 ghost use mathlib.Core.Path.{_≡_};
 ghost use mathlib.Core.Bool.{cond};
+ghost use mathlib.Core.List.{map};
+ghost use mathlib.Core.Option.{some};
 ghost use Prim.Native.Nat.{_+_, _*_, _≤_, _<_, min};
-ghost use lib.ListN.{length, getD, drop};
+ghost use lib.ListN.{length};
 ghost use Rattle.labels.specs.Word.{sameWord};
 ghost use Rattle.text.specs.Lists.{any, keep, sameBytes};
 ghost use Rattle.resolving.specs.Builtins as builtins;
 ghost use Rattle.resolving.specs.Builtins.{absorptionRoles, distributionRoles};
-ghost use Rattle.tokens.specs.Class.{classTable};
-ghost use Rattle.resolving.specs.Symbols.{definition};
-ghost use Rattle.read_forms.specs.Items.{kindAs, nameIn, itemsIn};
+ghost use Rattle.resolving.specs.Symbols.{definition, lookUp};
+ghost use Rattle.read_forms.specs.Items.{nameIn, itemsIn};
 ghost use Rattle.read_forms.specs.Fits.{InText, Listed};
 ghost use Rattle.resolve_context.specs.Lists.{Stands, foundAs, listAt};
-ghost use Rattle.resolve_symbols.specs.Lets.{keyAt, valuesAt, definitionAt, definitionsIn, indexAt, lastLet, hasKey, citing, markOf, lateAmong, citedBy, LetsFit, LetPut};
-ghost use Rattle.resolving_laws.specs.Claims.{isSymbol};
-ghost use Rattle.resolve_symbols.specs.Sources.{roleOf, meaningIn, lookedFor, LookedFits, Means, BuiltinMeans};
+ghost use Rattle.resolve_symbols.specs.Lets.{keyAt, valuesAt, definitionAt, definitionsIn, lastLet, hasKey, LetsFit, LetPut};
+ghost use Rattle.resolve_symbols.specs.Sources.{roleOf, LookedFits, Means, MeansAnywhere};
 ghost use Rattle.resolve_symbols.specs.Brings.{listOf, isIiv, parameterAt, fromTemplate, brings, FoundBelow, Matches, Yields};
 use read_forms::Items;
-use read_forms::Kind as EntryKind;
 use read_forms::Name;
 use resolve_context::Found;
 use resolve_context::Kind;
@@ -27,7 +26,6 @@ use resolve_context::Names;
 use resolve_context::name_at;
 use resolve_context::pair_at;
 use resolve_context::same_bytes;
-use tokens::Classes;
 use tokens::Cursor;
 
 // The roles of a template that a built-in takes.
@@ -49,22 +47,14 @@ pub enum Listing {
     Covariates,
 }
 
-// Names that stand somewhere: written in the text, or those of the context that was given.
+// What an operand or a symbol stands for: values that are written in the text, or names of the context that was given.
 pub enum Source {
     Values(Items),
     Given(Listing),
 }
 
-// A built-in's names, or that there is none of that name, or that its template or block is missing.
-pub enum Built {
-    Names(Listing),
-    Unknown,
-}
-
-// What an operand or a symbol stands for: names, or the values of a LET, by its index among the LETs, which may be symbols again.
 pub enum Looked {
     Names(Source),
-    Let(usize),
     Unknown,
 }
 
@@ -85,104 +75,47 @@ fn least(a: usize, b: usize) -> usize
     a
 }
 
-fn is_symbol(kind: EntryKind) -> bool
-    ensures { λ r. ⌜ r ≡ isSymbol (kindAs kind) ⌝ }
-{
-    match kind {
-        EntryKind::Word => false,
-        EntryKind::Number => false,
-        EntryKind::Symbol => true,
-    }
-}
-
-// Whether one of a LET's values is a symbol, as a number: 1 if so, 0 if none is.
-fn cites(text: &[u8], classes: &Classes, values: Items) -> u32
-    requires { ⌜ (now classes ≡ classTable) × Listed (now text) values ⌝ }
-    ensures { λ r. ⌜ r ≡ markOf (citing (itemsIn (now (text .entry)) values)) ⌝ }
-{
-    let mut left = values.count;
-    let mut cur = values.first;
-    while 0 < left {
-        let entry = read_checks::entry_at(text, classes, cur);
-        let kind = entry.kind;
-        if is_symbol(kind) {
-            return 1;
-        }
-        cur = read_checks::after_entry(text, classes, entry);
-        left -= 1;
-    }
-    0
-}
-
-// Puts the LET of the statement at an index behind the first n.
-pub fn put_let(
-    text: &[u8],
-    classes: &Classes,
-    lets: &mut [u32],
-    n: usize,
-    index: usize,
-    name: Name,
-    values: Items,
-)
-    requires { ⌜ (now classes ≡ classTable) × LetsFit (now text) (now lets) n × (n < 256) × (6 * (n + 1) ≤ length (now lets))
-        × (length (now text) ≤ 16384) × (index < 256) × InText (now text) name × Listed (now text) values ⌝ }
-    ensures { λ r. ⌜ LetPut (now (text .entry)) (now (lets .entry)) (now (lets .exit)) n index
+// Puts a LET behind the first n.
+pub fn put_let(text: &[u8], lets: &mut [u32], n: usize, name: Name, values: Items)
+    requires { ⌜ LetsFit (now text) (now lets) n × (n < 256) × (4 * (n + 1) ≤ length (now lets))
+        × (length (now text) ≤ 16384) × InText (now text) name × Listed (now text) values ⌝ }
+    ensures { λ r. ⌜ LetPut (now (text .entry)) (now (lets .entry)) (now (lets .exit)) n
         (definition (nameIn (now (text .entry)) name) (itemsIn (now (text .entry)) values)) ⌝ }
 {
     let first = values.first;
     let cursor = least(first.at, text.len());
-    let mark = cites(text, classes, values);
-    let at = 6 * n;
+    let at = 4 * n;
     lets[at] = name.offset as u32;
     lets[at + 1] = name.length as u32;
     lets[at + 2] = cursor as u32;
     lets[at + 3] = values.count as u32;
-    lets[at + 4] = mark;
-    lets[at + 5] = index as u32;
 }
 
 // The key of a LET, as a part of the text.
 fn key_at<'a>(text: &'a [u8], lets: &[u32], k: usize) -> &'a [u8]
-    requires { ⌜ (6 * (k + 1) ≤ length (now lets)) × InText (now text) (keyAt (now lets) k) ⌝ }
+    requires { ⌜ (4 * (k + 1) ≤ length (now lets)) × InText (now text) (keyAt (now lets) k) ⌝ }
     ensures { λ r. ⌜ now r ≡ definitionAt (now (text .entry)) (now (lets .entry)) k .key ⌝ }
 {
-    let start = lets[6 * k] as usize;
-    let end = start + lets[6 * k + 1] as usize;
+    let start = lets[4 * k] as usize;
+    let end = start + lets[4 * k + 1] as usize;
     &text[start..end]
 }
 
 // The values of a LET.
-pub fn values_at(lets: &[u32], k: usize) -> Items
-    requires { ⌜ 6 * (k + 1) ≤ length (now lets) ⌝ }
+fn values_at(lets: &[u32], k: usize) -> Items
+    requires { ⌜ 4 * (k + 1) ≤ length (now lets) ⌝ }
     ensures { λ r. ⌜ r ≡ valuesAt (now (lets .entry)) k ⌝ }
 {
-    let at = lets[6 * k + 2] as usize;
-    let count = lets[6 * k + 3] as usize;
+    let at = lets[4 * k + 2] as usize;
+    let count = lets[4 * k + 3] as usize;
     Items {
         first: Cursor { at },
         count,
     }
 }
 
-// Whether one of a LET's values is a symbol.
-pub fn is_citing(text: &[u8], lets: &[u32], k: usize) -> bool
-    requires { ⌜ (6 * (k + 1) ≤ length (now lets))
-        × (getD (now lets) (6 * k + 4) 0 ≡ markOf (citing (itemsIn (now text) (valuesAt (now lets) k)))) ⌝ }
-    ensures { λ r. ⌜ r ≡ citing (itemsIn (now (text .entry)) (valuesAt (now (lets .entry)) k)) ⌝ }
-{
-    lets[6 * k + 4] == 1
-}
-
-// The index of a LET's statement.
-pub fn index_at(lets: &[u32], k: usize) -> usize
-    requires { ⌜ 6 * (k + 1) ≤ length (now lets) ⌝ }
-    ensures { λ r. ⌜ r ≡ indexAt (now (lets .entry)) k ⌝ }
-{
-    lets[6 * k + 5] as usize
-}
-
 // The last of the first n LETs whose key the word is, ignoring case.
-pub fn find_let(text: &[u8], lets: &[u32], n: usize, word: &[u8]) -> Found
+fn find_let(text: &[u8], lets: &[u32], n: usize, word: &[u8]) -> Found
     requires { ⌜ LetsFit (now text) (now lets) n ⌝ }
     ensures { λ r. ⌜ r ≡ foundAs (lastLet (now (text .entry)) (now (lets .entry)) n (now (word .entry))) ⌝ }
 {
@@ -192,61 +125,6 @@ pub fn find_let(text: &[u8], lets: &[u32], n: usize, word: &[u8]) -> Found
         if labels::same_word(word, key_at(text, lets, left)) {
             return Found::Place(left);
         }
-    }
-    Found::Nothing
-}
-
-// Whether a value is the symbol of one of the LETs from the k-th on, of the first n.
-fn is_late(text: &[u8], lets: &[u32], n: usize, k: usize, kind: EntryKind, name: Name) -> bool
-    requires { ⌜ LetsFit (now text) (now lets) n × InText (now text) name ⌝ }
-    ensures { λ r. ⌜ r ≡ citedBy (drop k (definitionsIn (now (text .entry)) (now (lets .entry)) n)) (kindAs kind)
-        (nameIn (now (text .entry)) name .spelling) ⌝ }
-{
-    match kind {
-        EntryKind::Word => false,
-        EntryKind::Number => false,
-        EntryKind::Symbol => match find_let(text, lets, n, read_forms::spelling(text, name)) {
-            Found::Place(j) => k <= j,
-            Found::Nothing => false,
-        },
-    }
-}
-
-// Whether a LET that cites others cites itself or a later one of the first n.
-fn cites_late(text: &[u8], classes: &Classes, lets: &[u32], n: usize, k: usize) -> bool
-    requires { ⌜ (now classes ≡ classTable) × LetsFit (now text) (now lets) n × (k < n) ⌝ }
-    ensures { λ r. ⌜ r ≡ any (λ i. citedBy (drop k (definitionsIn (now (text .entry)) (now (lets .entry)) n)) (i .kind) (i .name .spelling))
-        (itemsIn (now (text .entry)) (valuesAt (now (lets .entry)) k)) ⌝ }
-{
-    let values = values_at(lets, k);
-    let mut left = values.count;
-    let mut cur = values.first;
-    while 0 < left {
-        let entry = read_checks::entry_at(text, classes, cur);
-        let kind = entry.kind;
-        let name = entry.name;
-        if is_late(text, lets, n, k, kind, name) {
-            return true;
-        }
-        cur = read_checks::after_entry(text, classes, entry);
-        left -= 1;
-    }
-    false
-}
-
-// The first of the first n LETs that cites itself or a later one.
-pub fn late_let(text: &[u8], classes: &Classes, lets: &[u32], n: usize) -> Found
-    requires { ⌜ (now classes ≡ classTable) × LetsFit (now text) (now lets) n ⌝ }
-    ensures { λ r. ⌜ r ≡ foundAs (lateAmong (definitionsIn (now (text .entry)) (now (lets .entry)) n)) ⌝ }
-{
-    let mut k = 0;
-    while k < n {
-        if is_citing(text, lets, k) {
-            if cites_late(text, classes, lets, n, k) {
-                return Found::Place(k);
-            }
-        }
-        k += 1;
     }
     Found::Nothing
 }
@@ -263,25 +141,25 @@ pub fn has_let(text: &[u8], lets: &[u32], n: usize, key: Name) -> bool
 }
 
 // A built-in of this name, if what it needs is there; for any other word, the other answer.
-fn if_word(word: &[u8], name: &[u8], there: bool, listing: Listing, other: Built) -> Built
-    ensures { λ r. ⌜ r ≡ cond (sameWord (now (word .entry)) (now (name .entry))) (cond there (Built.Names listing) Built.Unknown) other ⌝ }
+fn if_word(word: &[u8], name: &[u8], there: bool, listing: Listing, other: Looked) -> Looked
+    ensures { λ r. ⌜ r ≡ cond (sameWord (now (word .entry)) (now (name .entry))) (cond there (Looked.Names (Source.Given listing)) Looked.Unknown) other ⌝ }
 {
     if !labels::same_word(word, name) {
         return other;
     }
     if there {
-        return Built::Names(listing);
+        return Looked::Names(Source::Given(listing));
     }
-    Built::Unknown
+    Looked::Unknown
 }
 
 // A built-in by its name. The tests are made from the last to the first, as no two names are the same.
-pub fn builtin(layout: Layout, word: &[u8]) -> Built
-    ensures { λ r. ⌜ BuiltinMeans layout r (λ c. builtins.builtin c (now (word .entry))) ⌝ }
+fn builtin(layout: Layout, word: &[u8]) -> Looked
+    ensures { λ r. ⌜ MeansAnywhere layout r (λ c. builtins.builtin c (now (word .entry))) ⌝ }
 {
     let block = layout.declares;
     let template = layout.templated;
-    let r = Built::Unknown;
+    let r = Looked::Unknown;
     let r = if_word(
         word,
         b"CATEGORICAL",
@@ -331,26 +209,16 @@ pub fn builtin(layout: Layout, word: &[u8]) -> Built
     if_word(word, b"IIV", true, Listing::Iiv, r)
 }
 
-// What a built-in stands for.
-fn looked_for(built: Built) -> Looked
-    ensures { λ r. ⌜ r ≡ lookedFor built ⌝ }
-{
-    match built {
-        Built::Names(listing) => Looked::Names(Source::Given(listing)),
-        Built::Unknown => Looked::Unknown,
-    }
-}
-
 // What a symbol stands for: the last LET of that key, or the built-in.
 pub fn look_up(text: &[u8], lets: &[u32], n: usize, layout: Layout, word: &[u8]) -> Looked
     requires { ⌜ LetsFit (now text) (now lets) n ⌝ }
-    ensures { λ r. ⌜ LookedFits (now (text .entry)) n r × Means (now (text .entry)) (now (lets .entry)) layout r
-        (λ c. meaningIn (now (text .entry)) (now (lets .entry)) n c (now (word .entry))) ⌝ }
+    ensures { λ r. ⌜ LookedFits (now (text .entry)) r × Means (now (text .entry)) layout r
+        (λ c. lookUp c (map some (definitionsIn (now (text .entry)) (now (lets .entry)) n)) (now (word .entry))) ⌝ }
 {
     let Found::Place(k) = find_let(text, lets, n, word) else {
-        return looked_for(builtin(layout, word));
+        return builtin(layout, word);
     };
-    Looked::Let(k)
+    Looked::Names(Source::Values(values_at(lets, k)))
 }
 
 // Whether a role is one of a built-in's. Roles are equal byte for byte.

@@ -5,15 +5,12 @@ use Prim.Native.Nat.{ℕ, zero, suc, _+_, _-_, _≤_, _<_}
 use native.Mathlib.Nat.{not-suc-le-zero}
 use native.Mathlib.Numerals.{add-one}
 use native.Mathlib.Omega.{arith}
-use mathlib.Core.Path.{_≡_, refl, _∙_, ap, ap₂, sym, subst}
+use mathlib.Core.Path.{_≡_, refl, _∙_, ap, sym, subst}
 use mathlib.Core.Bool.{Bool, true, false, cond, _||_}
 use mathlib.Core.List.{List, [], _∷_, _++_, append-nil}
 use mathlib.Core.Option.{Option, some, none}
-use borrow.Author.Tests.{leb-true, leb-false}
-use lib.Dec.{leb}
-use lib.ListN.{length, take, drop, length-append, length-map, length-drop, take-append-drop}
-use lib.Seq.{append-snoc, drop-drop, length-take-le}
-use Rattle.text.proofs.Appended.{map-append}
+use lib.ListN.{length, take, drop}
+use lib.Seq.{append-snoc, drop-drop}
 use Rattle.labels.specs.Word.{sameWord}
 use Rattle.text.specs.Lists.{oneLater, any, again, againAfter}
 use Rattle.reading.specs.Statement.{Statement}
@@ -29,11 +26,9 @@ use Rattle.read_forms.specs.Forms.{statementIn}
 use Rattle.read_parts.specs.Apart.{apart}
 use Rattle.read_parts.specs.Meaning.{PartsFit}
 use Rattle.read_parts.proofs.Fitting.{statement-fits}
-use Rattle.resolve_symbols.specs.Lets.{indexAt, definitionsIn, hasKey, LetsFit, LetPut}
-use Rattle.resolve_symbols.proofs.Lets.{no-lets}
-use Rattle.resolve_symbols.proofs.Late.{definitions-length}
+use Rattle.resolve_symbols.specs.Lets.{definitionsIn, hasKey, LetsFit, LetPut}
 use Rattle.read_space.specs.Fit.{Fit}
-use Rattle.resolve_taking.specs.Collected.{present, spot, CollectedOnce}
+use Rattle.resolve_taking.specs.Collected.{present, CollectedAll}
 
 -- Places further on.
 
@@ -89,54 +84,23 @@ pub record Gathering (s : List ℕ) (ss : List Statement) (run : List ℕ) (n i 
   pub seen : List (Option Definition)
   pub keys : (d : Definition) → any (λ y. sameKey y (some d)) seen ≡ hasKey (definitionsIn s run n) (d .key)
   pub left : further i (againAfter sameKey seen (lets (drop i ss))) ≡ again sameKey (lets ss)
-  pub places : (k : ℕ) → k < n → indexAt run k ≡ spot (lets ss) k
 
 pub none-gathered : (s : List ℕ) (ss : List Statement) (run : List ℕ) → Gathering s ss run 0 0
 unfolding definitionsIn
 none-gathered s ss run =
     record {
-      fit = no-lets s run;
+      fit = record {
+        room = omega arith;
+        few = omega arith;
+        keys = λ k h. absurd (not-suc-le-zero h);
+        values = λ k h. absurd (not-suc-le-zero h);
+      };
       few = omega arith;
       are = refl;
       seen = [];
       keys = λ d. refl;
       left = refl;
-      places = λ k h. absurd (not-suc-le-zero h);
     }
-
--- Where a LET stands: behind all statements before it.
-present-append : (xs ys : List (Option Definition)) → present (xs ++ ys) ≡ present xs ++ present ys
-present-append [] ys = refl
-present-append (none ∷ xs) ys = present-append xs ys
-present-append (some d ∷ xs) ys = ap (λ (l : List Definition). d ∷ l) (present-append xs ys)
-
-spot-append : (xs : List (Option Definition)) (d : Definition) (ys : List (Option Definition)) → spot (xs ++ some d ∷ ys) (length (present xs)) ≡ length xs
-spot-append [] d ys = refl
-spot-append (none ∷ xs) d ys = ap suc (spot-append xs d ys)
-spot-append (some x ∷ xs) d ys = ap suc (spot-append xs d ys)
-
-spot-here :
-    (ss : List Statement) (i n : ℕ) (x : Statement) → drop i ss ≡ x ∷ drop (suc i) ss → (d : Definition) → defines x ≡ some d
-    → length (present (lets (take i ss))) ≡ n
-    → spot (lets ss) n ≡ i
-spot-here ss i n x h d e m =
-    let before = lets (take i ss) in
-    let whole : lets ss ≡ before ++ some d ∷ lets (drop (suc i) ss) =
-    ap lets (sym (take-append-drop i ss))
-    ∙ map-append defines (take i ss) (drop i ss)
-    ∙ ap (λ (l : List Statement). before ++ lets l) h
-    ∙ ap (λ (o : Option Definition). before ++ o ∷ lets (drop (suc i) ss)) e in
-    let many : length before ≡ i =
-    length-map (take i ss) defines ∙ length-take-le i ss (omega (arith, ap length h, length-drop i ss)) in
-    ap₂ spot whole (sym m) ∙ spot-append before d (lets (drop (suc i) ss)) ∙ many
-
--- what is known of each of some indexes is known of one more
-one-place : (f g : ℕ → ℕ) (n : ℕ) → ((k : ℕ) → k < n → f k ≡ g k) → f n ≡ g n → (k : ℕ) → k < n + 1 → f k ≡ g k
-one-place f g n old new k h = by-test (leb n k) refl
-  where
-    by-test : (t : Bool) → leb n k ≡ t → f k ≡ g k
-    by-test true e = let own : n ≡ k = omega (arith, leb-true n k e, h) in subst (λ (j : ℕ). f j ≡ g j) own new
-    by-test false e = old k (leb-false n k e)
 
 -- where no LET stands from an index on, none stands from a later one on
 quiet-behind : (o : Option Definition) (ds : List (Option Definition)) → present (o ∷ ds) ≡ [] → present ds ≡ []
@@ -156,13 +120,12 @@ still-quiet ss end i h e =
 
 module _ {s : List ℕ} {ss : List Statement} {run : List ℕ} {n i : ℕ} (g : Gathering s ss run n i) where
   -- none is left
-  pub all-gathered : present (lets (drop i ss)) ≡ [] → CollectedOnce s ss run n
+  pub all-gathered : present (lets (drop i ss)) ≡ [] → CollectedAll s ss run n
   all-gathered q =
       record {
         fit = g .fit;
         are = sym (append-nil (definitionsIn s run n)) ∙ ap (λ (l : List Definition). definitionsIn s run n ++ l) (sym q) ∙ g .are;
         once = sym (g .left) ∙ ap (further i) (none-again (g .seen) (lets (drop i ss)) q) ∙ further-none i;
-        places = g .places;
       }
 
   -- a statement that is no LET
@@ -181,7 +144,6 @@ module _ {s : List ℕ} {ss : List Statement} {run : List ℕ} {n i : ℕ} (g : 
             (sym (no-key (g .seen)))
             ∙ ap (λ (l : List (Option Definition)). further i (againAfter sameKey (g .seen) l)) (sym z)
             ∙ g .left;
-        places = g .places;
       }
 
   -- the statement at the index, and those behind it
@@ -200,21 +162,6 @@ module _ {s : List ℕ} {ss : List Statement} {run : List ℕ} {n i : ℕ} (g : 
       let-first : lets (drop i ss) ≡ some this ∷ lets (drop (suc i) ss)
       unfolding statementIn
       let-first = ap lets h ∙ ap (λ (x : forms.Statement). defines (statementIn s x) ∷ lets (drop (suc i) ss)) e
-
-      let-own : defines (statementIn s st) ≡ some this
-      unfolding statementIn
-      let-own = ap (λ (x : forms.Statement). defines (statementIn s x)) e
-
-      -- so many LETs stand before it
-      before-many : length (present (lets (take i ss))) ≡ n
-      before-many =
-          let x = ap length (g .are) in
-          let y = ap (λ (l : List Statement). length (present (lets l))) (take-append-drop i ss) in
-          let z = ap length (present-append (lets (take i ss)) (lets (drop i ss))) in
-          let v = ap (λ (l : List (Option Definition)). length (present l)) (map-append defines (take i ss) (drop i ss)) in
-          let u = length-append (definitionsIn s run n) (present (lets (drop i ss))) in
-          let w = length-append (present (lets (take i ss))) (present (lets (drop i ss))) in
-          omega (arith, x, y, z, v, u, w, definitions-length s run n)
 
       -- whether its key came before
       told-left :
@@ -240,7 +187,7 @@ module _ {s : List ℕ} {ss : List Statement} {run : List ℕ} {n i : ℕ} (g : 
           {r : Bool} {after : List ℕ}
           → r ≡ hasKey (definitionsIn s run n) (nameIn s name .spelling)
           → r ≡ false
-          → LetPut s run after n i (definition (nameIn s name) (itemsIn s values))
+          → LetPut s run after n (definition (nameIn s name) (itemsIn s values))
           → Gathering s ss after (n + 1) (i + 1)
       one-gathered {after} a b p =
           subst (Gathering s ss after (n + 1)) (sym (add-one i))
@@ -259,9 +206,6 @@ module _ {s : List ℕ} {ss : List Statement} {run : List ℕ} {n i : ℕ} (g : 
                 ∙ sym (has-key-last (definitionsIn s run n) this (x .key))
                 ∙ sym (ap (λ (l : List Definition). hasKey l (x .key)) (p .definitions));
             left = told-left false (sym a ∙ b);
-            places = one-place (indexAt after) (spot (lets ss)) n
-                (λ k q. p .others k q ∙ g .places k q)
-                (p .index ∙ sym (spot-here ss i n (statementIn s st) h this let-own before-many));
           })
 
 -- Where no LET stands before an index, gathering starts there.

@@ -1,6 +1,5 @@
 pub mod Reading
 pub mod Gathering
-pub mod Citing
 pub mod Bringing
 pub mod Meaning
 pub mod Refusing

@@ -4,13 +4,13 @@ use Prim.Native.Nat.{ℕ}
 use mathlib.Core.Path.{_≡_, refl, _∙_, ap}
 use mathlib.Core.Bool.{Bool, true, false, cond, _&&_}
 use mathlib.Core.List.{List}
-use mathlib.Core.Option.{Option, some, none}
+use mathlib.Core.Option.{Option, some}
 use Rattle.reading.specs.Statement.{Statement}
 use Rattle.reading.specs.Answer.{Answer, accepted, refused, _>>=_}
 use Rattle.reading.specs.Read.{readText}
 use Rattle.text.specs.Lists.{again}
-use Rattle.resolving.specs.Faults.{secondLet, citesLater, wrongContext}
-use Rattle.resolving.specs.Symbols.{Meaning, lets, sameKey, citesLate, lookUp}
+use Rattle.resolving.specs.Faults.{secondLet, wrongContext}
+use Rattle.resolving.specs.Symbols.{Meaning, lets, sameKey, lookUp}
 use Rattle.resolving.specs.Brought.{Brought, bring, eachFrom}
 use Rattle.resolving.specs.Resolve.{Resolved, atMostOnce, mergeAndGround, resolve}
 use Rattle.resolving.specs.Given.{isContext, contextIn, resolveText}
@@ -57,17 +57,7 @@ module _ (limit : ℕ) (b l s : List ℕ) where
     -- its LETs
     pub let-refused : {i : ℕ} → isHanded b l ≡ true → again sameKey (lets ss) ≡ some i → resolveHanded limit b l s ≡ refused 13 i
     unfolding resolve
-    let-refused h q =
-        on-handed h
-        ∙ ap (λ (o : Option ℕ). atMostOnce secondLet o (atMostOnce citesLater (citesLate (lets ss)) (settledBy (lookUp (handedContext b l) (lets ss))))) q
-
-    pub late-refused :
-        {i : ℕ} → isHanded b l ≡ true → again sameKey (lets ss) ≡ none → citesLate (lets ss) ≡ some i → resolveHanded limit b l s ≡ refused 25 i
-    unfolding resolve
-    late-refused h o q =
-        on-handed h
-        ∙ ap (λ (o : Option ℕ). atMostOnce secondLet o (atMostOnce citesLater (citesLate (lets ss)) (settledBy (lookUp (handedContext b l) (lets ss))))) o
-        ∙ ap (λ (o : Option ℕ). atMostOnce citesLater o (settledBy (lookUp (handedContext b l) (lets ss)))) q
+    let-refused h q = on-handed h ∙ ap (λ (o : Option ℕ). atMostOnce secondLet o (settledBy (lookUp (handedContext b l) (lets ss)))) q
 
     -- its statements: what they bring is merged and grounded, or one of them is refused
     pub brought-answer : {run : List ℕ} {n : ℕ} {x : Answer (List Brought)}
@@ -78,8 +68,7 @@ module _ (limit : ℕ) (b l s : List ℕ) where
     unfolding resolve
     brought-answer h a q =
         on-handed h
-        ∙ ap (λ (o : Option ℕ). atMostOnce secondLet o (atMostOnce citesLater (citesLate (lets ss)) (settledBy (lookUp (handedContext b l) (lets ss))))) (a .once)
-        ∙ ap (λ (o : Option ℕ). atMostOnce citesLater o (settledBy (lookUp (handedContext b l) (lets ss)))) (a .early)
+        ∙ ap (λ (o : Option ℕ). atMostOnce secondLet o (settledBy (lookUp (handedContext b l) (lets ss)))) (a .once)
         ∙ ap settledBy (collected-meaning (handedContext b l) a)
         ∙ ap (λ (x : Answer (List Brought)). x >>= mergeAndGround (handedContext b l)) q
 

@@ -32,8 +32,8 @@ pub record TextBrings (limit : ℕ) (s b l : List ℕ) (ts ds out : List ℕ) (t
   pub brought : AllBrings (eachFrom (bring (handedContext b l) (meaningIn s run n (handedContext b l))) 0 statements) ts ds u ts' ds'
   pub text : Written out 0 (restOf 0 (gather staying (brought .what))) out' (u .ground)
 
--- A text has at most 256 statements, so 1,536 numbers have room for its LETs.
+-- A text has at most 256 statements, so 1,024 numbers have room for its LETs.
 unfoldable pub TakenAs : ℕ → List ℕ → List ℕ → List ℕ → List ℕ → List ℕ → List ℕ → List ℕ → List ℕ → List ℕ → List ℕ → Taken → Type 0
 TakenAs limit s b l lets ts ds out ts' ds' out' (taken.Tally u) = TextBrings limit s b l ts ds out ts' ds' out' u
 TakenAs limit s b l lets ts ds out ts' ds' out' (taken.Refused r) = resolveHanded limit b l s ≡ refused (r .number) (r .place)
-TakenAs limit s b l lets ts ds out ts' ds' out' taken.Full = length lets < 1536
+TakenAs limit s b l lets ts ds out ts' ds' out' taken.Full = length lets < 1024

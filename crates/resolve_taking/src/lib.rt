@@ -17,7 +17,6 @@ use read_forms::Statement;
 use read_space::Form;
 use read_statements::NextRead;
 use resolve_context::Checked;
-use resolve_context::Found;
 use resolve_statements::Step;
 use resolve_statements::Tally;
 use tokens::Classes;
@@ -43,8 +42,6 @@ pub const FEW: usize = 32;
 pub const WRONG_CONTEXT: u8 = 12;
 
 pub const SECOND_LET: u8 = 13;
-
-pub const CITES_LATER: u8 = 25;
 
 fn no_forms() -> [Form; 32]
     ensures { λ r. ⌜ length r ≡ 32 ⌝ }
@@ -124,8 +121,7 @@ fn statement_at(
 }
 
 // What the statements of a text bring: the terms, the indexes of those that are dropped, and the ground statements of those that stay. The text's
-// own faults come first, then its context's, then a second LET of a key, then a LET that cites itself or a later
-// one, then those of its statements in order. So the text is read to its end before
+// own faults come first, then its context's, then a second LET of a key, then those of its statements in order. So the text is read to its end before
 // anything is made of a statement; its LETs are looked for, from the first one to the last; and then each statement is taken.
 pub fn take_text(
     text: &[u8],
@@ -191,10 +187,10 @@ pub fn take_text(
                         place: i,
                     });
                 }
-                if lets.len() < 6 * n + 6 {
+                if lets.len() < 4 * n + 4 {
                     return Taken::Full;
                 }
-                resolve_symbols::put_let(text, classes, lets, n, i, name, values);
+                resolve_symbols::put_let(text, lets, n, name, values);
                 n += 1;
                 from = again.next;
                 i += 1;
@@ -204,15 +200,6 @@ pub fn take_text(
                 i += 1;
             }
         }
-    }
-    match resolve_symbols::late_let(text, classes, lets, n) {
-        Found::Place(late) => {
-            return Taken::Refused(Refusal {
-                number: CITES_LATER,
-                place: resolve_symbols::index_at(lets, late),
-            });
-        }
-        Found::Nothing => {}
     }
     let mut tally = Tally {
         terms: 0,

@@ -1,5 +1,5 @@
 -- Document 01, Examples: those of resolving, as one checked list with the rest, evaluated on the definitions: sentences of Resolving and
--- Merging, what docs/DECISIONS.md settles, document 02's P3, and each fault from 12 to 18, 25 and 26, at its limits too.
+-- Merging, what docs/DECISIONS.md settles, and each fault from 12 to 18, at its limits too.
 -- Assumes nothing.
 use Prim.Native.Nat.{ℕ, zero, suc, _+_}
 use Prim.Native.String.{String}
@@ -284,23 +284,6 @@ rules =
     (bytes "LAGTIME(ON);COVARIATE?(CL,WT,[exp,lin],+);COVARIATE?(V,WT,exp,+);COVARIATE?(CL,WT,pow)")
     (five 0 0 2 1 1 ∷ five 1 0 2 1 1 ∷ five 0 0 0 1 1 ∷ five 0 0 3 0 1 ∷ [])
     (note 1 0 ∷ []))
-    -- Document 02, P3: a value of a LET, alone or in its array, is an earlier LET, else a built-in; "The expansion keeps first occurrences."
-    ∷ ("LET(B,V);LET(A,@b);IIV(@A,EXP)" ⟶ comesTo (bytes "IIV(V,EXP)") [] [])
-    ∷ ("LET(b,[V,KA]);LET(A,[KA,@B,CL,V]);IIV(@a,EXP)" ⟶ comesTo (bytes "IIV([KA,V,CL],EXP)") [] [])
-    ∷ ("LET(A,KA);LET(B,[@A,CL]);LET(C,[V,@B,@A]);IIV(@C,EXP);IIV(@A,EXP)" ⟶ comesTo (bytes "IIV([V,KA,CL],EXP);IIV(KA,EXP)") [] [])
-    ∷ ("LET(A,[@Elimination,@ABSORPTION]);IIV(@A,EXP)" ⟶ comesTo (bytes "IIV([CL,KA],EXP)") [] [])
-    ∷ ("LET(A,@PD);IIV(@A,EXP)" ⟶ comesTo [] [] (note 0 1 ∷ []))
-    ∷ ("LET(C,WT);LET(D,[@CATEGORICAL,@C]);COVARIATE?(CL,@D,*)" ⟶ comesTo (bytes "COVARIATE?(CL,SEX,cat);COVARIATE?(CL,WT,[lin,piece_lin,exp,pow])") (five 0 1 4 0 1 ∷ five 0 0 0 0 1 ∷ five 0 0 1 0 1 ∷ five 0 0 2 0 1 ∷ five 0 0 3 0 1 ∷ []) [])
-    -- a symbol is no name: a LET may have a name of its own, and a parameter's
-    ∷ ("LET(CL,V);LET(A,[CL,@CL]);IIV(@A,EXP)" ⟶ comesTo (bytes "IIV([CL,V],EXP)") [] [])
-    ∷ ("LET(A,[A,B]);LET(B,V)" ⟶ comesTo [] [] [])
-    -- `*` is the expanded LET of its name, and built-in PK_IIV still uses the built-in PK
-    ∷ ("LET(A,KA);LET(PK,[@A,CL]);IIV(*,EXP)" ⟶ comesTo (bytes "IIV([KA,CL],EXP)") [] [])
-    ∷ ("LET(iiv,[@PK_IIV,KA]);IOV(*,EXP)" ⟶ comesTo (bytes "IOV([CL,V,KA],EXP)") [] [])
-    ∷ ("LET(PK,KA);LET(A,[@PK,@PK_IIV]);IIV(@A,EXP)" ⟶ comesTo (bytes "IIV([KA,CL,V],EXP)") [] [])
-    -- an unused LET's symbols mean nothing, and no LET makes a COVARIATE explicit
-    ∷ ("LET(A,@NOPE)" ⟶ comesTo [] [] [])
-    ∷ ("LET(A,CL);LET(B,@A);COVARIATE(@B,WT,lin);COVARIATE(CL,WT,exp)" ⟶ comesTo (bytes "COVARIATE(CL,WT,exp)") (five 0 0 2 0 0 ∷ []) [])
     ∷ []
 
 abbrev pub faults : List Example
@@ -329,35 +312,6 @@ faults =
     ∷ ("COVARIATE(CL,[WT,SEX],lin)" ⟶ refusal 16 0)
     ∷ ("COVARIATE(CL,WT,[lin,cat])" ⟶ refusal 16 0)
     ∷ ("COVARIATE(CL,SEX,custom)" ⟶ refusal 16 0)
-    -- 25, after 12 and 13, before 14, used or not: at the lowest citing index, of itself, of a later LET, of one that has a built-in's name
-    ∷ inContext (withMarks false true) "LET(A,@A)" (refusal 12 0)
-    ∷ ("LET(A,@A)" ⟶ refusal 25 0)
-    ∷ ("LET(A,@A);LET(a,V)" ⟶ refusal 13 1)
-    ∷ ("IIV(@NONE,*);LET(A,[A,@a])" ⟶ refusal 25 1)
-    ∷ ("LAGTIME(*);LET(A,[CL,@b]);LET(B,V)" ⟶ refusal 25 1)
-    ∷ ("LET(A,CL);LET(B,@C);LET(D,@D);LET(C,V)" ⟶ refusal 25 1)
-    ∷ ("LET(A,CL);LET(B,@A);LET(D,[@A,@B,@D])" ⟶ refusal 25 2)
-    ∷ ("LET(A,@PK);LET(pk,V)" ⟶ refusal 25 0)
-    ∷ ("LET(PK,[CL,@PK])" ⟶ refusal 25 0)
-    -- 14 anywhere in an expansion, at the statement that uses it, before 15
-    ∷ ("LET(A,[CL,@NOPE]);LAGTIME(*);IIV(@A,EXP)" ⟶ refusal 14 2)
-    ∷ ("LET(B,[WT,@NOPE]);LET(A,@B);IIV(@A,EXP)" ⟶ refusal 14 2)
-    ∷ ("LET(A,[CL,@CL]);IIV(@A,EXP)" ⟶ refusal 14 1)
-    ∷ ("LET(PK,[CL,@NOPE]);IIV(@PK_IIV,EXP);IIV(*,EXP)" ⟶ refusal 14 2)
-    ∷ inContext (withTemplate none) "LET(A,@PK);IIV(@A,EXP)" (refusal 14 1)
-    ∷ ("LET(A,[CL,WT]);LET(B,@A);IIV(@B,EXP)" ⟶ refusal 15 2)
-    -- 26, over 64 names once repeats are gone, where they are used: after 14 and before 15, first for parameters, then covariates
-    ∷ ("LET(A,[n1,n2,n3,n4,n5,n6,n7,n8,n9,n10,n11,n12,n13,n14,n15,n16,n17,n18,n19,n20,n21,n22,n23,n24,n25,n26,n27,n28,n29,n30,n31,n32,n33,n34,n35,n36,n37,n38,n39,n40,n41,n42,n43,n44,n45,n46,n47,n48,n49,n50,n51,n52,n53,n54,n55,n56,n57,n58,n59,n60,n61,n62,n63,n64]);LET(B,[@A,n1])" ⟶ comesTo [] [] [])
-    ∷ ("LET(A,[n1,n2,n3,n4,n5,n6,n7,n8,n9,n10,n11,n12,n13,n14,n15,n16,n17,n18,n19,n20,n21,n22,n23,n24,n25,n26,n27,n28,n29,n30,n31,n32,n33,n34,n35,n36,n37,n38,n39,n40,n41,n42,n43,n44,n45,n46,n47,n48,n49,n50,n51,n52,n53,n54,n55,n56,n57,n58,n59,n60,n61,n62,n63,n64]);LET(B,[@A,x])" ⟶ comesTo [] [] [])
-    ∷ ("LET(A,[n1,n2,n3,n4,n5,n6,n7,n8,n9,n10,n11,n12,n13,n14,n15,n16,n17,n18,n19,n20,n21,n22,n23,n24,n25,n26,n27,n28,n29,n30,n31,n32,n33,n34,n35,n36,n37,n38,n39,n40,n41,n42,n43,n44,n45,n46,n47,n48,n49,n50,n51,n52,n53,n54,n55,n56,n57,n58,n59,n60,n61,n62,n63,n64]);LET(B,[@A,n64,@A]);IIV(@B,EXP)" ⟶ refusal 15 2)
-    ∷ ("LET(A,[n1,n2,n3,n4,n5,n6,n7,n8,n9,n10,n11,n12,n13,n14,n15,n16,n17,n18,n19,n20,n21,n22,n23,n24,n25,n26,n27,n28,n29,n30,n31,n32,n33,n34,n35,n36,n37,n38,n39,n40,n41,n42,n43,n44,n45,n46,n47,n48,n49,n50,n51,n52,n53,n54,n55,n56,n57,n58,n59,n60,n61,n62,n63,n64]);LET(B,[@A,x]);IIV(@B,EXP)" ⟶ refusal 26 2)
-    ∷ ("LET(A,[n1,n2,n3,n4,n5,n6,n7,n8,n9,n10,n11,n12,n13,n14,n15,n16,n17,n18,n19,n20,n21,n22,n23,n24,n25,n26,n27,n28,n29,n30,n31,n32,n33,n34,n35,n36,n37,n38,n39,n40,n41,n42,n43,n44,n45,n46,n47,n48,n49,n50,n51,n52,n53,n54,n55,n56,n57,n58,n59,n60,n61,n62,n63,n64]);LET(B,[@A,N1]);IOV(@B,EXP)" ⟶ refusal 26 2)
-    ∷ ("LET(A,[n1,n2,n3,n4,n5,n6,n7,n8,n9,n10,n11,n12,n13,n14,n15,n16,n17,n18,n19,n20,n21,n22,n23,n24,n25,n26,n27,n28,n29,n30,n31,n32,n33,n34,n35,n36,n37,n38,n39,n40,n41,n42,n43,n44,n45,n46,n47,n48,n49,n50,n51,n52,n53,n54,n55,n56,n57,n58,n59,n60,n61,n62,n63,n64]);LET(B,[@A,x,@NOPE]);IIV(@B,EXP)" ⟶ refusal 14 2)
-    ∷ ("LET(A,[n1,n2,n3,n4,n5,n6,n7,n8,n9,n10,n11,n12,n13,n14,n15,n16,n17,n18,n19,n20,n21,n22,n23,n24,n25,n26,n27,n28,n29,n30,n31,n32,n33,n34,n35,n36,n37,n38,n39,n40,n41,n42,n43,n44,n45,n46,n47,n48,n49,n50,n51,n52,n53,n54,n55,n56,n57,n58,n59,n60,n61,n62,n63,n64]);LET(PK,[@A,x]);IIV(*,EXP)" ⟶ refusal 26 2)
-    ∷ ("LET(A,[n1,n2,n3,n4,n5,n6,n7,n8,n9,n10,n11,n12,n13,n14,n15,n16,n17,n18,n19,n20,n21,n22,n23,n24,n25,n26,n27,n28,n29,n30,n31,n32,n33,n34,n35,n36,n37,n38,n39,n40,n41,n42,n43,n44,n45,n46,n47,n48,n49,n50,n51,n52,n53,n54,n55,n56,n57,n58,n59,n60,n61,n62,n63,n64]);LET(B,[@A,x]);COVARIATE(@B,@NONE,lin)" ⟶ refusal 26 2)
-    ∷ ("LET(A,[n1,n2,n3,n4,n5,n6,n7,n8,n9,n10,n11,n12,n13,n14,n15,n16,n17,n18,n19,n20,n21,n22,n23,n24,n25,n26,n27,n28,n29,n30,n31,n32,n33,n34,n35,n36,n37,n38,n39,n40,n41,n42,n43,n44,n45,n46,n47,n48,n49,n50,n51,n52,n53,n54,n55,n56,n57,n58,n59,n60,n61,n62,n63,n64]);LET(B,[@A,x]);COVARIATE(@NONE,@B,lin)" ⟶ refusal 14 2)
-    ∷ ("LET(A,[n1,n2,n3,n4,n5,n6,n7,n8,n9,n10,n11,n12,n13,n14,n15,n16,n17,n18,n19,n20,n21,n22,n23,n24,n25,n26,n27,n28,n29,n30,n31,n32,n33,n34,n35,n36,n37,n38,n39,n40,n41,n42,n43,n44,n45,n46,n47,n48,n49,n50,n51,n52,n53,n54,n55,n56,n57,n58,n59,n60,n61,n62,n63,n64]);LET(B,[@A,x]);COVARIATE(WT,@B,lin)" ⟶ refusal 15 2)
-    ∷ ("LET(A,[n1,n2,n3,n4,n5,n6,n7,n8,n9,n10,n11,n12,n13,n14,n15,n16,n17,n18,n19,n20,n21,n22,n23,n24,n25,n26,n27,n28,n29,n30,n31,n32,n33,n34,n35,n36,n37,n38,n39,n40,n41,n42,n43,n44,n45,n46,n47,n48,n49,n50,n51,n52,n53,n54,n55,n56,n57,n58,n59,n60,n61,n62,n63,n64]);LET(B,[@A,x]);COVARIATE(CL,@B,lin)" ⟶ refusal 26 2)
     ∷ []
 
 abbrev pub run : Example → Outcome

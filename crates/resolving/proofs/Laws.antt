@@ -4,7 +4,7 @@ use Prim.Native.Nat.{ℕ, _≤_}
 use native.Mathlib.Omega.{arith}
 use mathlib.Core.Path.{_≡_, refl, sym, _∙_, ap, ap₂}
 use mathlib.Core.Bool.{Bool, true, false, cond, _&&_, _||_}
-use mathlib.Core.List.{List, [], _∷_, _++_, map}
+use mathlib.Core.List.{List, [], _∷_, map}
 use mathlib.Core.Option.{Option, some, none}
 use lib.Dec.{eqb, ltb}
 use lib.ListN.{length, getD, length-map}
@@ -19,7 +19,7 @@ use Rattle.reading.specs.Answer.{Answer, accepted, refused, _>>=_}
 use Rattle.text.specs.Lists.{any, isNil}
 use Rattle.resolving.specs.Context.{Context}
 use Rattle.resolving.specs.Builtins.{builtin}
-use Rattle.resolving.specs.Symbols.{Definition, Meaning, valuesMean, letting, meaningAfter, lookUp}
+use Rattle.resolving.specs.Symbols.{Definition, Meaning, letting, meaningAfter, lookUp}
 use Rattle.resolving.specs.Operands.{parametersOf, covariatesOf}
 use Rattle.resolving.specs.Effects.{Effect, effectsOf, against}
 use Rattle.resolving.specs.Brought.{Brought, dropped, stays, brings, whole, plainName, listed, dropIf, bring}
@@ -28,7 +28,7 @@ use Rattle.resolving.specs.Ground.{Group, groupOf, sameGroup}
 -- "A symbol is looked up among the LETs, then among the built-ins": where no LET has its key, a symbol is what the built-in of that name is.
 -- "Built-in PK_IIV uses the built-in PK, never a LET."
 
-abbrev pub hasKey : List ℕ → Option Definition → Bool
+abbrev hasKey : List ℕ → Option Definition → Bool
 hasKey w none = false
 hasKey w (some d) = sameWord w (d .key)
 
@@ -37,30 +37,11 @@ unchanged look [] w e = refl
 unchanged look (none ∷ ds) w e = unchanged (letting look none) ds w e
 unchanged look (some d ∷ ds) w e =
     unchanged (letting look (some d)) ds w (or-right (sameWord w (d .key)) (any (hasKey w) ds) e)
-    ∙ ap (λ (t : Bool). cond t (valuesMean look (d .values)) (look w)) (or-left (sameWord w (d .key)) (any (hasKey w) ds) e)
+    ∙ ap (λ (t : Bool). cond t (some (d .values)) (look w)) (or-left (sameWord w (d .key)) (any (hasKey w) ds) e)
 
 pub built-in : (c : Context) (ds : List (Option Definition)) (w : List ℕ) → any (hasKey w) ds ≡ false → lookUp c ds w ≡ builtin c w
 unfolding lookUp
 built-in c ds w e = unchanged (builtin c) ds w e
-
--- Document 02, P3: "an element of the list may be a symbol again; where that names a LET, it is an earlier one": a symbol's LET, where no
--- LET behind it has its key, has its values as they are meant after the LETs before it.
-expanded :
-    (look : Meaning) (before : List (Option Definition)) (d : Definition) (after : List (Option Definition)) (w : List ℕ)
-    → sameWord w (d .key) ≡ true
-    → any (hasKey w) after ≡ false
-    → meaningAfter look (before ++ some d ∷ after) w ≡ valuesMean (meaningAfter look before) (d .values)
-expanded look [] d after w h e =
-    unchanged (letting look (some d)) after w e ∙ ap (λ (t : Bool). cond t (valuesMean look (d .values)) (look w)) h
-expanded look (b ∷ before) d after w h e = expanded (letting look b) before d after w h e
-
-pub expands :
-    (c : Context) (before : List (Option Definition)) (d : Definition) (after : List (Option Definition)) (w : List ℕ)
-    → sameWord w (d .key) ≡ true
-    → any (hasKey w) after ≡ false
-    → lookUp c (before ++ some d ∷ after) w ≡ valuesMean (lookUp c before) (d .values)
-unfolding lookUp
-expands c before d after w h e = expanded (builtin c) before d after w h e
 
 -- ".. ignoring ASCII case": words that are the same but for case mean the same.
 
@@ -78,7 +59,7 @@ module _ (v w : List ℕ) (e : sameWord v w ≡ true) where
   meaning-case look h (none ∷ ds) = meaning-case (letting look none) h ds
   meaning-case look h (some d ∷ ds) =
       meaning-case (letting look (some d))
-      (ap₂ (λ (t : Bool) (o : Option (List (List ℕ))). cond t (valuesMean look (d .values)) o) (same-as (d .key)) h)
+      (ap₂ (λ (t : Bool) (o : Option (List (List ℕ))). cond t (some (d .values)) o) (same-as (d .key)) h)
       ds
 
   built-in-case : (c : Context) → builtin c v ≡ builtin c w

@@ -1,5 +1,5 @@
--- Document 01, Faults by cause, and document 02, P3: the faults of resolving by their numbers. The place of 13, 17 and 25, and of 14 to 16
--- and 26, is a statement's index; that of 12, 18 and 19 is 0.
+-- Document 01, Faults by cause: the faults of resolving by their numbers. The place of 13 and 17, and of 14 to 16, is a statement's index;
+-- that of 12, 18 and 19 is 0.
 use Prim.Native.Nat.{ℕ}
 
 -- context not as the paper says
@@ -10,17 +10,9 @@ wrongContext = 12
 abbrev pub secondLet : ℕ
 secondLet = 13
 
--- a LET cites itself or a later LET; after 13
-abbrev pub citesLater : ℕ
-citesLater = 25
-
 -- unknown symbol, or one whose template or block is missing
 abbrev pub unknownSymbol : ℕ
 unknownSymbol = 14
-
--- an expansion of over 64 names; after 14 and before 15
-abbrev pub tooManyNames : ℕ
-tooManyNames = 26
 
 -- name not in the model
 abbrev pub unknownName : ℕ

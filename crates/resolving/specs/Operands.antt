@@ -1,28 +1,21 @@
 -- Document 01, Resolving: "Each resolved list keeps first occurrences. Each name in one, written or brought by a symbol or `*`, is held by 15
 -- to the list that written names are held to there". What is resolved is a list of indexes, each that of its name's first entry. A fault's
--- place, the statement's index, is put in where statements are taken in order (Brought). And document 02, P3: "The expansion keeps first
--- occurrences", and "26: an expansion of over 64 names, at the using statement, after 14 and before 15".
+-- place, the statement's index, is put in where statements are taken in order (Brought).
 use Prim.Native.Nat.{ℕ}
-use mathlib.Core.Bool.{cond}
 use mathlib.Core.List.{List, [], _∷_, map}
 use mathlib.Core.Option.{Option, some, none}
-use lib.Dec.{eqb, ltb}
-use lib.ListN.{length}
+use lib.Dec.{eqb}
 use Rattle.reading.specs.Statement.{Operand, everyone, symbol, names}
 use Rattle.reading.specs.Answer.{Answer, accepted, refused, _>>=_}
 use Rattle.text.specs.Lists.{firsts, placeIn, sameBytes}
-use Rattle.resolving.specs.Faults.{unknownSymbol, tooManyNames, unknownName}
+use Rattle.resolving.specs.Faults.{unknownSymbol, unknownName}
 use Rattle.resolving.specs.Context.{Context, covariates}
 use Rattle.resolving.specs.Symbols.{Meaning}
 
--- 26: "an expansion of over 64 names"
-abbrev pub fewNames : List (List ℕ) → Answer (List (List ℕ))
-fewNames ws = cond (ltb 64 (length ws)) (refused tooManyNames 0) (accepted ws)
-
--- 14: "unknown symbol, or one whose template or block is missing", anywhere in the expansion. "The expansion keeps first occurrences."
+-- 14: "unknown symbol, or one whose template or block is missing"
 abbrev pub known : Option (List (List ℕ)) → Answer (List (List ℕ))
 known none = refused unknownSymbol 0
-known (some ws) = fewNames (firsts sameBytes ws)
+known (some ws) = accepted ws
 
 -- an operand's names, where `*` has these
 abbrev pub namesOf : Meaning → Answer (List (List ℕ)) → Operand → Answer (List (List ℕ))

@@ -1,6 +1,6 @@
 -- Document 01, Resolving: "1. Check the context. 2. Collect every LET; the key ignores ASCII case. 3. Take the features in order. 4. Merge
 -- the effects. 5. Make the ground text." And Faults: "13, then 14 to 16 by statement (parameters, covariates, pairs), then 18 for effects,
--- 17, 18 for the ground space". And document 02, P3: "25: a LET cites itself or a later LET, at the lowest citing index, after 13".
+-- 17, 18 for the ground space".
 use Prim.Native.Nat.{ℕ, suc}
 use mathlib.Core.Bool.{cond}
 use mathlib.Core.List.{List, [], _∷_, _++_}
@@ -11,9 +11,9 @@ use Rattle.reading.specs.Statement.{Statement}
 use Rattle.reading.specs.Answer.{Answer, accepted, refused, refusedIf, _>>=_}
 use Rattle.canonical.specs.Canonical.{canonical}
 use Rattle.text.specs.Lists.{any, again, gather}
-use Rattle.resolving.specs.Faults.{secondLet, citesLater, forcedTwice, tooLarge}
+use Rattle.resolving.specs.Faults.{secondLet, forcedTwice, tooLarge}
 use Rattle.resolving.specs.Context.{Context}
-use Rattle.resolving.specs.Symbols.{Meaning, Definition, lets, sameKey, citesLate, lookUp}
+use Rattle.resolving.specs.Symbols.{Meaning, Definition, lets, sameKey, lookUp}
 use Rattle.resolving.specs.Effects.{Effect}
 use Rattle.resolving.specs.Brought.{Brought, defining, dropped, stays, brings, bring, eachFrom}
 use Rattle.resolving.specs.Merging.{effectsIn, forcedAgain, merged}
@@ -44,7 +44,7 @@ abbrev pub additive : List Effect → List Note
 additive es = cond (any (λ e. eqb (e .operator) 1) es) (record { reason = 1; index = 0 } ∷ []) []
 
 module _ {A : Type 0} where
-  -- a refusal at the index of what may not be, if there is such an index: of what comes again, or cites what comes later
+  -- a refusal at the index of what may not come again, if it does
   abbrev pub atMostOnce : ℕ → Option ℕ → Answer A → Answer A
   atMostOnce n none a = a
   atMostOnce n (some i) a = refused n i
@@ -72,9 +72,9 @@ mergeAndGround c bs =
     (upTo 16384 (length (groundText (outcome c bs)))
     (accepted (outcome c bs)))))
 
--- 2, and then what symbols mean. 13: "second LET of a key". 25: "a LET cites itself or a later LET".
+-- 2, and then what symbols mean. 13: "second LET of a key".
 abbrev pub withSymbols : {A : Type 0} → Context → List (Option Definition) → (Meaning → Answer A) → Answer A
-withSymbols c ds f = atMostOnce secondLet (again sameKey ds) (atMostOnce citesLater (citesLate ds) (f (lookUp c ds)))
+withSymbols c ds f = atMostOnce secondLet (again sameKey ds) (f (lookUp c ds))
 
 -- 2 to 5. The context is checked where it is handed over (Given).
 unfoldable pub resolve : Context → List Statement → Answer Resolved

@@ -12,7 +12,7 @@ use Rattle.resolving.specs.Brought.{Brought, defining, dropped, stays, brings, 
 use Rattle.resolving.specs.Ground.{Group, sameGroup, groupOf, groups, formsIn, groundCovariate, staying, ground}
 use Rattle.text.proofs.All.{All, finished, also, all-weaker, all-of, all-append, all-firsts, all-map}
 use Rattle.resolving_laws.proofs.Passed.{Each, none-asked, answered, each-answered}
-use Rattle.resolving_laws.specs.Claims.{isLet}
+use Rattle.resolving_laws.proofs.SymbolLaws.{isLet}
 use Rattle.resolving_laws.proofs.Stands.{Written, Suited, Stands, stands-dropped, stands-effects, stands-itself, stands-defining}
 use Rattle.resolving_laws.proofs.Regrouped.{block}
 use Rattle.resolving_laws.proofs.GroupAgain.{group-brings}

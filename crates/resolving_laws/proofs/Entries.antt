@@ -5,8 +5,8 @@ use mathlib.Core.Path.{_≡_, refl, sym, _∙_, ap, ap₂, subst}
 use mathlib.Core.Bool.{Bool, true, false, cond, _&&_, false≢true}
 use mathlib.Core.List.{List, [], _∷_, map}
 use mathlib.Core.Option.{Option, some, none}
-use lib.Dec.{eqb, ltb}
-use lib.ListN.{length, getD}
+use lib.Dec.{eqb}
+use lib.ListN.{getD}
 use borrow.Author.Tests.{eqb-true, eq-eqb}
 use Rattle.text.proofs.Tests.{halves}
 use Rattle.text.specs.Lists.{oneLater, firsts, placeIn, sameBytes}
@@ -14,10 +14,10 @@ use Rattle.reading.specs.Statement.{Name, Operand, everyone, symbol, names}
 use Rattle.reading.specs.Answer.{Answer, accepted, refused, _>>=_}
 use Rattle.reading_laws.specs.WellFormed.{Gives, given, nothing}
 use Rattle.reading_laws.proofs.Giving.{gives-bind}
-use Rattle.reading_laws.proofs.Faults.{Anything, either-gives}
+use Rattle.reading_laws.proofs.Faults.{Anything}
 use Rattle.resolving.specs.Context.{Context, covariates}
 use Rattle.resolving.specs.Symbols.{Meaning}
-use Rattle.resolving.specs.Operands.{fewNames, known, namesOf, entered, entryOf, entriesOf, held, parametersOf, covariatesOf}
+use Rattle.resolving.specs.Operands.{known, namesOf, entered, entryOf, entriesOf, held, parametersOf, covariatesOf}
 use Rattle.resolving.specs.Brought.{plainName}
 use Rattle.text.proofs.Bools.{none≢some}
 use Rattle.text.proofs.All.{All, finished, also, all-firsts}
@@ -82,13 +82,9 @@ held-gives list g =
     gives-bind (entries-first list ws)
     (λ is h. given (record { first = all-firsts eqb h; once = once-firsts eqb (firsts eqb is) (firsts-once eqb is) }))
 
--- few names or 26, as known as the names
-few-give : (ws : List (List ℕ)) → Gives Anything (fewNames ws)
-few-give ws = either-gives (ltb 64 (length ws)) (nothing refl) (given {a = ws} tt)
-
 known-gives : (o : Option (List (List ℕ))) → Gives Anything (known o)
 known-gives none = nothing refl
-known-gives (some ws) = few-give (firsts sameBytes ws)
+known-gives (some ws) = given tt
 
 names-give : (look : Meaning) {star : Answer (List (List ℕ))} (o : Operand) → Gives Anything star → Gives Anything (namesOf look star o)
 names-give look everyone h = h

@@ -14,7 +14,7 @@ use Rattle.reading_laws.proofs.Giving.{gives-bind, fault-given}
 use Rattle.reading_laws.proofs.Faults.{Anything, either-gives, text-gives}
 use Rattle.text.specs.Lists.{again, gather}
 use Rattle.resolving.specs.Context.{Context}
-use Rattle.resolving.specs.Symbols.{lets, sameKey, citesLate, lookUp}
+use Rattle.resolving.specs.Symbols.{lets, sameKey, lookUp}
 use Rattle.resolving.specs.Brought.{Brought}
 use Rattle.resolving.specs.Merging.{effectsIn, forcedAgain}
 use Rattle.resolving.specs.Resolve.{Resolved, groundText, outcome, atMostOnce, upTo, mergeAndGround, resolve}
@@ -43,8 +43,7 @@ merging-gives c bs =
 resolve-gives : (c : Context) (ss : List Statement) → Gives Anything (resolve c ss)
 unfolding resolve
 resolve-gives c ss =
-    once-gives 13 (again sameKey (lets ss)) refl
-    (once-gives 25 (citesLate (lets ss)) refl (gives-bind (all-stand c (lookUp c (lets ss)) 0 ss) (λ bs h. merging-gives c bs)))
+    once-gives 13 (again sameKey (lets ss)) refl (gives-bind (all-stand c (lookUp c (lets ss)) 0 ss) (λ bs h. merging-gives c bs))
 
 resolved-gives : (limit : ℕ) (g : Given) (text : List ℕ) → Gives Anything (resolveText limit g text)
 unfolding resolveText

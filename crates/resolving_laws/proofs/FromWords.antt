@@ -13,7 +13,6 @@ use Rattle.reading.specs.Statement.{
   Kind,
   aWord,
   aNumber,
-  aSymbol,
   Item,
   Modes,
   allModes,
@@ -91,11 +90,8 @@ operatorFrom ws = cond (eqb (what ws) 11) multiply add
 someFrom : {A : Type 0} → (Words → A) → Words → Option A
 someFrom from ws = cond (eqb (what ws) 13) none (some (from ws))
 
-abbrev kindFrom : ℕ → Kind
-kindFrom k = cond (eqb k 0) aWord (cond (eqb k 1) aNumber aSymbol)
-
 itemFrom : List ℕ → Item
-itemFrom w = record { kind = kindFrom (getD w 0 0); name = nameFrom (drop 1 w) }
+itemFrom w = record { kind = cond (eqb (getD w 0 0) 0) aWord aNumber; name = nameFrom (drop 1 w) }
 
 pub statementFrom : List Words → Statement
 statementFrom ws =
@@ -168,10 +164,9 @@ unfolding someFrom nameFrom what first
 some-name-again none = refl
 some-name-again (some n) = refl
 
-kind-again : (k : Kind) → kindFrom (kindNumber k) ≡ k
+kind-again : (k : Kind) → cond (eqb (kindNumber k) 0) aWord aNumber ≡ k
 kind-again aWord = refl
 kind-again aNumber = refl
-kind-again aSymbol = refl
 
 items-again : (is : List Item) → map itemFrom (map itemWord is) ≡ is
 unfolding itemFrom nameFrom

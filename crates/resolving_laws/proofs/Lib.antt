@@ -28,10 +28,6 @@ pub mod WellGround
 pub mod Below
 pub mod Rereading
 pub mod GivenReadable
--- Names that symbols bring.
-pub mod HeldFirsts
-pub mod Expanding
-pub mod Plain
 -- One run of effects.
 pub mod FlatLaws
 -- The theorems.

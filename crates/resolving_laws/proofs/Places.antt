@@ -31,7 +31,7 @@ use Rattle.reading.specs.Answer.{Answer, accepted, _>>=_}
 use Rattle.reading_laws.specs.Moved.{moveName, moveItem, moveOperand}
 use Rattle.canonical_laws.specs.Forgotten.{nowhere, forget}
 use Rattle.resolving.specs.Context.{Context}
-use Rattle.resolving.specs.Symbols.{Meaning, Value, Definition, valueOf, defines, lets}
+use Rattle.resolving.specs.Symbols.{Meaning, Definition, defines, lets}
 use Rattle.resolving.specs.Operands.{namesOf}
 use Rattle.resolving.specs.Brought.{Brought, bring, atIndex, eachFrom}
 use Rattle.resolving.specs.Resolve.{withSymbols, mergeAndGround, resolve}
@@ -52,7 +52,7 @@ module _ {A B : Type 0} (g : A → B) where
 -- Statements.
 
 defines-forgotten : (s : Statement) → defines (forget s) ≡ defines s
-defines-forgotten (Let n is) = ap (λ (vs : List Value). some (record { key = n .spelling; values = vs })) (map-map valueOf (moveItem nowhere) is)
+defines-forgotten (Let n is) = ap (λ (vs : List (List ℕ)). some (record { key = n .spelling; values = vs })) (map-map _ (moveItem nowhere) is)
 defines-forgotten (feature f) = refl
 
 lets-forgotten : (ss : List Statement) → lets (map forget ss) ≡ lets ss

@@ -1,17 +1,16 @@
--- Resolving statements in any order that keeps that of the LETs: it is refused or not alike, the effects are the same, each as often, and the ground texts are of one
+-- Resolving statements in any order: it is refused or not alike, the effects are the same, each as often, and the ground texts are of one
 -- length.
 -- Assumes nothing.
-use mathlib.Core.Path.{_≡_}
 use mathlib.Core.List.{List}
 use Rattle.reading.specs.Statement.{Statement}
 use Rattle.resolving.specs.Context.{Context}
-use Rattle.text.specs.Lists.{keep}
+use Rattle.resolving.specs.Symbols.{defines}
 use Rattle.resolving.specs.Brought.{Brought, bring}
 use Rattle.resolving.specs.Merging.{effectsIn, forcedAgain}
 use Rattle.resolving.specs.Resolve.{Resolved, mergeAndGround, resolve}
 use Rattle.resolving_laws.specs.Alike.{Alike, both}
-use Rattle.resolving_laws.specs.Claims.{isLet, SameLength}
-use Rattle.text.proofs.Permuted.{Permuted, length-permuted, gather-permuted}
+use Rattle.resolving_laws.specs.Claims.{SameLength}
+use Rattle.text.proofs.Permuted.{Permuted, length-permuted, map-permuted, gather-permuted}
 use Rattle.resolving_laws.proofs.Answering.{bind-alike, up-to-alike, once-alike, each-permuted}
 use Rattle.resolving_laws.proofs.SymbolLaws.{with-symbols-alike}
 use Rattle.resolving_laws.proofs.MergingLaws.{merged-permuted, forced-permuted}
@@ -34,8 +33,8 @@ ground-permuted c {bs} {ds} p =
     2048 _ _ (length-permuted (gather-permuted effectsIn p))
 
 pub resolve-permuted :
-    (c : Context) {ss ts : List Statement} → Permuted ss ts → keep isLet ss ≡ keep isLet ts → Alike Likewise (resolve c ss) (resolve c ts)
+    (c : Context) {ss ts : List Statement} → Permuted ss ts → Alike Likewise (resolve c ss) (resolve c ts)
 unfolding resolve
-resolve-permuted c {ss} {ts} p e =
-    with-symbols-alike c p e _ _
+resolve-permuted c {ss} {ts} p =
+    with-symbols-alike c (map-permuted defines p) _ _
     (λ look. bind-alike (mergeAndGround c) (mergeAndGround c) (each-permuted (bring c look) p 0 0) (λ bs ds q. ground-permuted c q))

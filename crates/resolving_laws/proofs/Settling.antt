@@ -12,16 +12,15 @@ use Rattle.reading.specs.Answer.{Answer, accepted, _>>=_}
 use Rattle.canonical.specs.Canonical.{canonical}
 use Rattle.text.specs.Lists.{gather, again}
 use Rattle.resolving.specs.Context.{Context}
-use Rattle.resolving.specs.Symbols.{lets, sameKey, citesLate, lookUp}
+use Rattle.resolving.specs.Symbols.{lets, sameKey, lookUp}
 use Rattle.resolving.specs.Brought.{Brought, bring, eachFrom}
 use Rattle.resolving.specs.Merging.{effectsIn, forcedAgain, merged}
 use Rattle.resolving.specs.Ground.{ground}
 use Rattle.resolving.specs.Resolve.{Resolved, mergeAndGround, resolve, outcome}
-use Rattle.resolving_laws.specs.Claims.{isLet}
 use Rattle.text.proofs.All.{All}
 use Rattle.resolving_laws.proofs.Passed.{once-passed, up-to-passed}
 use Rattle.reading.proofs.Answers.{bind-passed}
-use Rattle.resolving_laws.proofs.SymbolLaws.{without-lets}
+use Rattle.resolving_laws.proofs.SymbolLaws.{isLet, without-lets}
 
 pub record Settles (c : Context) (bs : List Brought) : Type 0 where
   pub few : length (gather effectsIn bs) ≤ 2048
@@ -63,8 +62,7 @@ pub resolved-as : (c : Context) (ss : List Statement) (r : Resolved) → resolve
 unfolding resolve
 resolved-as c ss r e =
     let a = once-passed 13 (again sameKey (lets ss)) _ e in
-    let d = once-passed 25 (citesLate (lets ss)) _ (a .1) in
-    let b = bind-passed (eachFrom (bring c (lookUp c (lets ss))) 0 ss) (mergeAndGround c) (d .1) in
+    let b = bind-passed (eachFrom (bring c (lookUp c (lets ss))) 0 ss) (mergeAndGround c) (a .1) in
     record { brought = b .value; each = b .is; settled = settled-as c (b .value) r (b .next) }
 
 pub resolves-as :

@@ -10,14 +10,14 @@ use Rattle.reading.specs.Answer.{Answer, accepted, refused, _>>=_}
 use Rattle.reading.specs.Read.{readText}
 use Rattle.canonical_laws.specs.Forgotten.{forget}
 use Rattle.resolving.specs.Context.{Context}
-use Rattle.text.specs.Lists.{any, keep}
+use Rattle.text.specs.Lists.{any}
 use Rattle.resolving.specs.Effects.{Effect}
 use Rattle.resolving.specs.Merging.{sameEffect}
 use Rattle.resolving.specs.Resolve.{Resolved, resolve, additive}
 use Rattle.resolving.specs.Given.{Given, isContext, contextIn, resolveText}
 use Rattle.resolving_laws.specs.Alike.{Alike, neither}
 use Rattle.resolving_laws.specs.Same.{occurrences}
-use Rattle.resolving_laws.specs.Claims.{isLet, SameStatements, SameEffects, Reordered, SameLength, isDropped, Kept}
+use Rattle.resolving_laws.specs.Claims.{SameStatements, SameEffects, Reordered, SameLength, isDropped, Kept}
 use Rattle.text.proofs.Permuted.{Permuted, any-permuted}
 use Rattle.text.proofs.All.{All}
 use Rattle.resolving_laws.proofs.Below.{Below64, resolved-below}
@@ -35,14 +35,13 @@ permuted-effects r s p e = any-permuted (sameEffect e) p
 
 statements-reordered :
     (c : Context) (ss ts : List Statement) → ((s : Statement) → occurrences s (map forget ss) ≡ occurrences s (map forget ts))
-    → keep isLet (map forget ss) ≡ keep isLet (map forget ts)
     → Alike Likewise (resolve c ss) (resolve c ts)
-statements-reordered c ss ts h e =
+statements-reordered c ss ts h =
     subst₂
     (Alike Likewise)
     (resolve-forgets c ss)
     (resolve-forgets c ts)
-    (resolve-permuted c (as-often-permuted (map forget ss) (map forget ts) h) e)
+    (resolve-permuted c (as-often-permuted (map forget ss) (map forget ts) h))
 
 -- the call's answer, after reading and with the context's check
 abbrev answered : Given → Bool → Answer (List Statement) → Answer Resolved
@@ -60,11 +59,11 @@ texts-reordered limit g a d s =
     (by-cases (isContext g))
   where
     by-cases : (t : Bool) → Alike Likewise (answered g t (accepted (s .first))) (answered g t (accepted (s .second)))
-    by-cases true = statements-reordered (contextIn g) (s .first) (s .second) (s .as-often) (s .lets-in-order)
+    by-cases true = statements-reordered (contextIn g) (s .first) (s .second) (s .as-often)
     by-cases false = neither
 
--- Reordering: where two texts are accepted and one has each of the other's statements as often, with the LETs in one order, one resolves in a
--- context exactly when the other does, and then to the same set of effects.
+-- Reordering: where two texts are accepted and one has each of the other's statements as often, one resolves in a context exactly when the
+-- other does, and then to the same set of effects.
 pub reordered-alike : (limit : ℕ) (g : Given) (a d : List ℕ) → SameStatements limit a d → Reordered limit g a d
 reordered-alike limit g a d s = alike-weaker (λ x y h. permuted-effects x y (h .permuted)) (texts-reordered limit g a d s)
 

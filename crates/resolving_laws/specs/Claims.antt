@@ -1,16 +1,16 @@
--- What is claimed of Resolve in every context: of texts of the same statements in whatever order that keeps their LETs', and of ground texts.
+-- What is claimed of Resolve in every context: of texts of the same statements in whatever order, and of ground texts.
 use Prim.Native.Nat.{ℕ}
 use mathlib.Core.Path.{_≡_}
-use mathlib.Core.Bool.{Bool, true, false}
+use mathlib.Core.Bool.{Bool, false}
 use mathlib.Core.List.{List, map}
 use lib.Dec.{eqb}
 use lib.ListN.{length}
-use Rattle.reading.specs.Statement.{Kind, aWord, aNumber, aSymbol, Statement, Let, feature}
+use Rattle.reading.specs.Statement.{Statement}
 use Rattle.reading.specs.Answer.{accepted}
 use Rattle.reading.specs.Read.{readText}
 use Rattle.canonical.specs.Print.{printText}
 use Rattle.canonical_laws.specs.Forgotten.{forget}
-use Rattle.text.specs.Lists.{any, keep}
+use Rattle.text.specs.Lists.{any}
 use Rattle.resolving.specs.Effects.{Effect}
 use Rattle.resolving.specs.Merging.{sameEffect}
 use Rattle.resolving.specs.Resolve.{Note, Resolved, groundText}
@@ -18,25 +18,13 @@ use Rattle.resolving.specs.Given.{Given, resolveText}
 use Rattle.resolving_laws.specs.Alike.{Alike}
 use Rattle.resolving_laws.specs.Same.{occurrences}
 
--- a value of a LET that is a symbol
-abbrev pub isSymbol : Kind → Bool
-isSymbol aWord = false
-isSymbol aNumber = false
-isSymbol aSymbol = true
-
-abbrev pub isLet : Statement → Bool
-isLet (Let n is) = true
-isLet (feature f) = false
-
--- "every accepted file D of A's statements in whatever order": "D has each as often as A". And document 02, P3: "reordering a file must from
--- here on keep its LETs in their own order".
+-- "every accepted file D of A's statements in whatever order": "D has each as often as A"
 pub record SameStatements (limit : ℕ) (a d : List ℕ) : Type 0 where
   pub first : List Statement
   pub second : List Statement
   pub first-read : readText limit a ≡ accepted first
   pub second-read : readText limit d ≡ accepted second
   pub as-often : (s : Statement) → occurrences s (map forget first) ≡ occurrences s (map forget second)
-  pub lets-in-order : keep isLet (map forget first) ≡ keep isLet (map forget second)
 
 -- "Effects are compared as their five numbers, listing order ignored": an effect is in one list exactly if it is in the other.
 abbrev pub isIn : List Effect → Effect → Bool

@@ -11,7 +11,6 @@ use Rattle.reading.specs.Statement.{
   Kind,
   aWord,
   aNumber,
-  aSymbol,
   Item,
   allModes,
   modes,
@@ -51,7 +50,6 @@ nameWord n = n .place ∷ n .spelling
 abbrev pub kindNumber : Kind → ℕ
 kindNumber aWord = 0
 kindNumber aNumber = 1
-kindNumber aSymbol = 2
 
 abbrev pub itemWord : Item → List ℕ
 itemWord i = kindNumber (i .kind) ∷ nameWord (i .name)

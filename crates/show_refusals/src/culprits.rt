@@ -1,4 +1,5 @@
 // Which operand, name or covariate a statement is refused for, as Resolve itself says of each by itself (`probes`).
+use crate::covariate;
 use crate::effects;
 use crate::operand_places;
 use crate::operand_places::Operand;
@@ -6,6 +7,7 @@ use crate::probes;
 use crate::probes::Probed;
 use show_contexts::context_names;
 use show_texts::scenes;
+use tokens::Token;
 
 // What an operand stands for.
 pub fn probe_operand(
@@ -82,93 +84,75 @@ pub fn refused_of(
     operand_places::covariates_of(text, start)
 }
 
-// Whether a value is refused by a number: a name or a symbol, as no other mark is.
-fn is_value_refused(
+// Whether a token is a name that is missing.
+fn is_missing(
     probe: &mut [u8],
     lets: usize,
     text: &[u8],
-    value: Operand,
+    operand: Operand,
+    token: Token,
     block: &[u8],
     lists: &[u32],
-    number: u8,
 ) -> bool {
-    let token = scenes::token_at(text, value.from);
     if tokens::NUMBER < token.kind {
-        if token.kind != b'@' {
-            return false;
-        }
+        return false;
     }
-    is_refused(probe, lets, text, value, block, lists, number)
+    is_refused(
+        probe,
+        lets,
+        text,
+        operand_places::alone(operand, token),
+        block,
+        lists,
+        15,
+    )
 }
 
-// The first value of an operand that is refused by a number, or the operand.
-fn first_refused(
+// The offset of the first name of an operand that is missing, or of the operand.
+fn first_missing(
     probe: &mut [u8],
     lets: usize,
     text: &[u8],
     operand: Operand,
     block: &[u8],
     lists: &[u32],
-    number: u8,
-) -> Operand {
+) -> usize {
     let mut at = operand.from;
     while at < operand.to {
-        let value = operand_places::value_at(text, operand, at);
-        if is_value_refused(probe, lets, text, value, block, lists, number) {
-            return value;
+        let token = scenes::token_at(text, at);
+        let next = token.next;
+        if is_missing(probe, lets, text, operand, token, block, lists) {
+            return token.start;
         }
-        if value.to <= at {
-            return operand;
+        if next.at <= at {
+            return operand.from;
         }
-        at = value.to;
+        at = next.at;
     }
-    operand
+    operand.from
 }
 
-// The first value that is refused: of the LET that an operand's symbol is of, or of the operand.
-fn inner_of(
+// The place of the missing name: where it is written, in the statement or in the LET that brings it; or the symbol that does.
+pub fn missing_place(
     probe: &mut [u8],
     lets: usize,
     text: &[u8],
     operand: Operand,
     block: &[u8],
     lists: &[u32],
-    number: u8,
-) -> Operand {
+) -> usize {
     let start = operand_places::let_of(text, operand);
     if start < text.len() {
         let values = operand_places::values_of(text, operand, start);
-        return first_refused(probe, lets, text, values, block, lists, number);
+        return first_missing(probe, lets, text, values, block, lists);
     }
-    first_refused(probe, lets, text, operand, block, lists, number)
+    if covariate::is_sign(text, operand.from) {
+        return operand.from;
+    }
+    first_missing(probe, lets, text, operand, block, lists)
 }
 
-// The name or the symbol of the context for which an operand is refused by a number, where it is written: in the statement, or in a LET that brings
-// it, itself or by another. LETs cite earlier ones, of which there are fewer than 256.
-pub fn culprit_of(
-    probe: &mut [u8],
-    lets: usize,
-    text: &[u8],
-    operand: Operand,
-    block: &[u8],
-    lists: &[u32],
-    number: u8,
-) -> Operand {
-    let mut found = operand;
-    let mut left: usize = 256;
-    while 0 < left {
-        let inner = inner_of(probe, lets, text, found, block, lists, number);
-        if inner.from == found.from {
-            return found;
-        }
-        found = inner;
-        left -= 1;
-    }
-    found
-}
-
-// An entry by its index.
-pub fn entry_at(picked: &[u8], i: usize) -> usize {
+fn entry_at(picked: &[u8], i: usize) -> usize {
     if i < picked.len() {
         return wide(picked[i]);
     }

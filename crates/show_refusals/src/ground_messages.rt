@@ -1,7 +1,5 @@
-// Why a text is refused in a context, in words, whatever the number: the causes of 13 to 18, 25 and 26 are looked for by resolving parts of the text.
-use crate::citing;
+// Why a text is refused in a context, in words, whatever the number: the causes of 13 to 18 are looked for by resolving parts of the text.
 use crate::culprits;
-use crate::expansions;
 use crate::kinds;
 use crate::names;
 use crate::pair_messages;
@@ -22,8 +20,7 @@ fn put_unknown(
     lets: usize,
 ) -> usize {
     let operand = culprits::refused_of(probe, lets, text, start, block, lists, 14);
-    let found = culprits::culprit_of(probe, lets, text, operand, block, lists, 14);
-    symbols::put_unknown(page, len, text, lists, operand, found)
+    symbols::put_unknown(page, len, text, lists, operand.from)
 }
 
 // A name that is missing.
@@ -38,8 +35,8 @@ fn put_missing(
     lets: usize,
 ) -> usize {
     let operand = culprits::refused_of(probe, lets, text, start, block, lists, 15);
-    let found = culprits::culprit_of(probe, lets, text, operand, block, lists, 15);
-    names::put_missing(page, len, text, block, lists, operand, found)
+    let place = culprits::missing_place(probe, lets, text, operand, block, lists);
+    names::put_missing(page, len, text, block, lists, operand, place)
 }
 
 // An effect against its covariate's kind.
@@ -55,22 +52,6 @@ fn put_against(
 ) -> usize {
     let entry = culprits::against_entry(probe, lets, text, start, block, lists);
     kinds::put_against(page, len, text, block, lists, start, entry)
-}
-
-// A symbol of too many names.
-fn put_many(
-    page: &mut [u8],
-    len: usize,
-    text: &[u8],
-    block: &[u8],
-    lists: &[u32],
-    start: usize,
-    probe: &mut [u8],
-    lets: usize,
-) -> usize {
-    let operand = culprits::refused_of(probe, lets, text, start, block, lists, 26);
-    let count = expansions::count_of(text, block, lists, operand, probe, lets);
-    expansions::put_many(page, len, text, lists, operand, count)
 }
 
 // The fault of a statement, by its number and the statement's index.
@@ -92,8 +73,6 @@ fn put_statement(
         15 => put_missing(page, len, text, block, lists, start, &mut probe, lets),
         16 => put_against(page, len, text, block, lists, start, &mut probe, lets),
         17 => pair_messages::put_forced(page, len, text, block, lists, index, &mut probe, lets),
-        25 => citing::put_late(page, len, text, start),
-        26 => put_many(page, len, text, block, lists, start, &mut probe, lets),
         _ => pair_messages::put_large(page, len, text, block, lists, &mut probe, lets),
     }
 }

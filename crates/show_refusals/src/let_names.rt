@@ -64,20 +64,6 @@ pub fn find_let(text: &[u8], word: &[u8]) -> usize {
     text.len()
 }
 
-// The offset of the first LET whose name a token is, or the text's length.
-pub fn let_named(text: &[u8], token: Token) -> usize {
-    let start = token.start;
-    let after = token.next;
-    let end = after.at;
-    if text.len() < end {
-        return text.len();
-    }
-    if end < start {
-        return text.len();
-    }
-    find_let(text, &text[start..end])
-}
-
 fn put_key(page: &mut [u8], len: usize, text: &[u8], walk: Walk) -> usize {
     if !walk.is_let {
         return len;

@@ -95,14 +95,8 @@ fn is_sign(text: &[u8], place: usize) -> bool {
     tokens::NUMBER < token.kind
 }
 
-// What brings to which line what is written elsewhere.
-pub fn put_brought(
-    page: &mut [u8],
-    len: usize,
-    text: &[u8],
-    operand: Operand,
-    place: usize,
-) -> usize {
+// What a LET brings to which line.
+fn put_brought(page: &mut [u8], len: usize, text: &[u8], operand: Operand, place: usize) -> usize {
     if operand.from <= place {
         if place < operand.to {
             return len;
@@ -120,15 +114,17 @@ fn put_cause(
     text: &[u8],
     block: &[u8],
     lists: &[u32],
-    found: Operand,
+    operand: Operand,
+    place: usize,
 ) -> usize {
-    if is_sign(text, found.from) {
-        return put_builtin(page, len, text, block, lists, found);
+    if is_sign(text, place) {
+        return put_builtin(page, len, text, block, lists, operand);
     }
-    put_written(page, len, text, found.from, found.covariate)
+    let n = put_written(page, len, text, place, operand.covariate);
+    put_brought(page, n, text, operand, place)
 }
 
-// A name that is not in the model, where it or the symbol that has it is written; and the operand that brings it.
+// A name that is not in the model, and the place where it is written, or the symbol that brings it.
 pub fn put_missing(
     page: &mut [u8],
     len: usize,
@@ -136,11 +132,10 @@ pub fn put_missing(
     block: &[u8],
     lists: &[u32],
     operand: Operand,
-    found: Operand,
+    place: usize,
 ) -> usize {
-    let a = put_cause(page, len, text, block, lists, found);
-    let b = put_brought(page, a, text, operand, found.from);
-    let c = pages::put(page, b, b'\n');
-    let d = places::put_marked(page, c, text, found.from);
-    put_known(page, d, block, lists, operand.covariate)
+    let a = put_cause(page, len, text, block, lists, operand, place);
+    let b = pages::put(page, a, b'\n');
+    let c = places::put_marked(page, b, text, place);
+    put_known(page, c, block, lists, operand.covariate)
 }

@@ -60,28 +60,6 @@ pub fn alone(operand: Operand, token: Token) -> Operand {
     }
 }
 
-// The name behind an `@`.
-pub fn name_behind(text: &[u8], sign: Token) -> Token {
-    let after = sign.next;
-    scenes::token_at(text, after.at)
-}
-
-// The value at an offset of an operand by itself: a token, or an `@` with its name.
-pub fn value_at(text: &[u8], operand: Operand, at: usize) -> Operand {
-    let token = scenes::token_at(text, at);
-    if token.kind != b'@' {
-        return alone(operand, token);
-    }
-    let name = name_behind(text, token);
-    let after = name.next;
-    Operand {
-        from: token.start,
-        to: after.at,
-        covariate: operand.covariate,
-        iiv: false,
-    }
-}
-
 // The offset of the LET that an operand's symbol, or its `*`, is of; or the text's length.
 pub fn let_of(text: &[u8], operand: Operand) -> usize {
     let sign = scenes::token_at(text, operand.from);
@@ -91,7 +69,18 @@ pub fn let_of(text: &[u8], operand: Operand) -> usize {
     if sign.kind != b'@' {
         return text.len();
     }
-    symbol_words::let_named(text, name_behind(text, sign))
+    let after = sign.next;
+    let token = scenes::token_at(text, after.at);
+    let start = token.start;
+    let behind = token.next;
+    let end = behind.at;
+    if text.len() < end {
+        return text.len();
+    }
+    if end < start {
+        return text.len();
+    }
+    symbol_words::find_let(text, &text[start..end])
 }
 
 // The LET that `*` is of.

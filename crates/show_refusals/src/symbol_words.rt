@@ -2,7 +2,6 @@
 use crate::let_names;
 pub use crate::let_names::find_let;
 pub use crate::let_names::is_key;
-pub use crate::let_names::let_named;
 use show_contexts::context_names;
 use show_pages::pages;
 

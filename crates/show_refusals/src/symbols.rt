@@ -1,11 +1,23 @@
 // A LET that is the second of its name, and a symbol that stands for nothing that there is.
-use crate::names;
-use crate::operand_places::Operand;
 use crate::symbol_words;
 use show_pages::pages;
 use show_pages::places;
 use show_texts::scenes;
 use tokens::Token;
+
+// The line of the first LET of a token's name.
+fn first_line(text: &[u8], token: Token) -> usize {
+    let start = token.start;
+    let after = token.next;
+    let end = after.at;
+    if text.len() < end {
+        return 0;
+    }
+    if end < start {
+        return 0;
+    }
+    places::line_of(text, symbol_words::find_let(text, &text[start..end]))
+}
 
 // A second LET of a name.
 pub fn put_second(page: &mut [u8], len: usize, text: &[u8], start: usize) -> usize {
@@ -14,8 +26,7 @@ pub fn put_second(page: &mut [u8], len: usize, text: &[u8], start: usize) -> usi
     let a = places::put_place(page, len, text, token.start);
     let b = pages::put_quoted(page, a, text, token.start, after.at);
     let c = pages::put_all(page, b, b" has a LET already, on line ");
-    let first = symbol_words::let_named(text, token);
-    let d = pages::put_number(page, c, places::line_of(text, first));
+    let d = pages::put_number(page, c, first_line(text, token));
     let e = pages::put_all(
         page,
         d,
@@ -82,20 +93,12 @@ fn put_known(page: &mut [u8], len: usize, text: &[u8], lists: &[u32]) -> usize {
     pages::put(page, b, b'\n')
 }
 
-// An unknown symbol, or one whose template or block is missing, at its place; and the operand that brings it.
-pub fn put_unknown(
-    page: &mut [u8],
-    len: usize,
-    text: &[u8],
-    lists: &[u32],
-    operand: Operand,
-    found: Operand,
-) -> usize {
-    let sign = scenes::token_at(text, found.from);
+// An unknown symbol, or one whose template or block is missing, at its place.
+pub fn put_unknown(page: &mut [u8], len: usize, text: &[u8], lists: &[u32], place: usize) -> usize {
+    let sign = scenes::token_at(text, place);
     let a = places::put_place(page, len, text, sign.start);
     let b = put_symbol(page, a, text, sign);
-    let c = names::put_brought(page, b, text, operand, sign.start);
-    let d = pages::put(page, c, b'\n');
-    let e = places::put_marked(page, d, text, sign.start);
-    put_known(page, e, text, lists)
+    let c = pages::put(page, b, b'\n');
+    let d = places::put_marked(page, c, text, sign.start);
+    put_known(page, d, text, lists)
 }

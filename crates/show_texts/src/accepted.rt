@@ -160,11 +160,7 @@ pub fn put_wanted(page: &mut [u8], len: usize, want: Wanted) -> usize {
         Wanted::Operator => pages::put_all(page, len, b"the operator, `+` or `*`"),
         Wanted::Covariate => pages::put_all(page, len, b"a covariate's name"),
         Wanted::Reference => pages::put_all(page, len, b"a number, the reference value"),
-        Wanted::Values => pages::put_all(
-            page,
-            len,
-            b"a name, a number, `@SYMBOL`, or an array of them",
-        ),
+        Wanted::Values => pages::put_all(page, len, b"a name, a number, or an array of them"),
         Wanted::Nothing => pages::put_all(page, len, b"no argument"),
     }
 }

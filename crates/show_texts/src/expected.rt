@@ -23,11 +23,7 @@ fn put_let(page: &mut [u8], len: usize, before: u8, commas: usize) -> usize {
         return pages::put_all(page, len, b"a comma");
     }
     if before == b',' {
-        return pages::put_all(
-            page,
-            len,
-            b"a name, a number, `@SYMBOL`, or an array of them",
-        );
+        return pages::put_all(page, len, b"a name, a number, or an array of them");
     }
     pages::put_all(page, len, b"`)`")
 }
@@ -59,22 +55,10 @@ fn put_inside(page: &mut [u8], len: usize, scene: Scene, lets: bool) -> usize {
     put_argument(page, len, scene.before)
 }
 
-// An entry of an array, which in a LET alone may be a symbol.
-fn put_entry(page: &mut [u8], len: usize, lets: bool) -> usize {
-    pages::put_either(
-        page,
-        len,
-        lets,
-        b"a name, a number or `@SYMBOL`",
-        b"a name or a number",
-    )
-}
-
-fn put_array(page: &mut [u8], len: usize, before: u8, lets: bool) -> usize {
+fn put_array(page: &mut [u8], len: usize, before: u8) -> usize {
     match before {
-        b'[' => put_entry(page, len, lets),
-        b',' => put_entry(page, len, lets),
-        b'@' => pages::put_all(page, len, b"the name of a symbol"),
+        b'[' => pages::put_all(page, len, b"a name or a number"),
+        b',' => pages::put_all(page, len, b"a name or a number"),
         _ => pages::put_all(page, len, b"a comma or `]`"),
     }
 }
@@ -84,7 +68,7 @@ fn put_what(page: &mut [u8], len: usize, scene: Scene, lets: bool) -> usize {
     match inside {
         scenes::BEFORE => put_before(page, len, scene.before, lets),
         scenes::ARGUMENTS => put_inside(page, len, scene, lets),
-        scenes::ARRAY => put_array(page, len, scene.before, lets),
+        scenes::ARRAY => put_array(page, len, scene.before),
         _ => pages::put_all(page, len, b"`;` or a new line behind the statement"),
     }
 }

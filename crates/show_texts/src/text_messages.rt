@@ -100,18 +100,11 @@ fn put_mode(page: &mut [u8], len: usize, text: &[u8], place: usize) -> usize {
 // What there is too much of.
 fn put_crowd(page: &mut [u8], len: usize, text: &[u8], place: usize) -> usize {
     let scene = scenes::scene_at(text, place);
-    if scene.inside == scenes::ARRAY {
-        return pages::put_either(
-            page,
-            len,
-            scenes::keyword_of(text, scene) == 14,
-            b"a 65th word, number or symbol; an array has at most 64",
-            b"a 65th entry; an array has at most 64",
-        );
-    }
-    pages::put_all(
+    pages::put_either(
         page,
         len,
+        scene.inside == scenes::ARRAY,
+        b"a 65th entry; an array has at most 64",
         b"this stands behind 256 statements; a text has at most 256",
     )
 }

@@ -12,8 +12,5 @@ returns c = sym (ap (λ (e : Entry). bareAs e (c .before .before .args .count)) 
 returns-2 : tie.Need-returns-2
 returns-2 c = sym (ap (λ (e : Entry). bareAs e (c .before .before .args .count)) (c .enum-told2 .given .1))
 
-returns-3 : tie.Need-returns-3
-returns-3 c = sym (ap (λ (e : Entry). bareAs e (c .before .before .args .count)) (c .enum-told3 .given .1))
-
 pub is-bare-spec : {M : Type 1} → statement M
-is-bare-spec = tie.close (tie.spec (λ c. search needs) (λ c. search needs) (λ c. search needs) returns returns-2 returns-3)
+is-bare-spec = tie.close (tie.spec (λ c. search needs) (λ c. search needs) returns returns-2)

@@ -5,7 +5,7 @@ use mathlib.Core.Path.{_∙_, sym}
 use denote.Ref.{now}
 use Rattle.read_forms.specs.Items.{itemsIn}
 use Rattle.print_writing.proofs.Writing.{room-same}
-use Rattle.print_parts.specs.Parts.{piecesAs}
+use Rattle.print_parts.specs.Parts.{shapesAs}
 use Rattle.print_parts.proofs.Entries.{how-many}
 use Rattle.print_parts.proofs.Parts.{list-bare, list-bracketed}
 use Rattle.print_parts.proofs.put_list.Statement.{statement}
@@ -20,7 +20,7 @@ put-entries-requires c κs =
     let k = t .before in
     let a = k .before .before .before in
     let s = now (a .args .text) in
-    let xs = piecesAs (a .args .entry) (itemsIn s (a .args .items)) in
+    let xs = shapesAs (a .args .entry) (itemsIn s (a .args .items)) in
     let n = how-many (a .args .entry) s (a .args .items) (a .pre .1) in
     (a .pre .0, a .pre .1, room-same (a .args .at) (list-bare (a .args .entry) _ xs (sym (k .is-bare .ensures) ∙ t .if1 .taken) n) (a .pre .2))
 
@@ -30,7 +30,7 @@ returns c =
     let k = t .before in
     let a = k .before .before .before in
     let s = now (a .args .text) in
-    let xs = piecesAs (a .args .entry) (itemsIn s (a .args .items)) in
+    let xs = shapesAs (a .args .entry) (itemsIn s (a .args .items)) in
     let n = how-many (a .args .entry) s (a .args .items) (a .pre .1) in
     rw (list-bare (a .args .entry) _ xs (sym (k .is-bare .ensures) ∙ t .if1 .taken) n) (c .before .before .put-entries .ensures)
 
@@ -40,7 +40,7 @@ put-bracketed-requires c κs =
     let k = t .before in
     let a = k .before .before .before in
     let s = now (a .args .text) in
-    let xs = piecesAs (a .args .entry) (itemsIn s (a .args .items)) in
+    let xs = shapesAs (a .args .entry) (itemsIn s (a .args .items)) in
     let n = how-many (a .args .entry) s (a .args .items) (a .pre .1) in
     (a .pre .0, a .pre .1, room-same (a .args .at) (list-bracketed (a .args .entry) _ xs (sym (k .is-bare .ensures) ∙ t .if1 .left) n) (a .pre .2))
 
@@ -50,7 +50,7 @@ returns-2 c =
     let k = t .before in
     let a = k .before .before .before in
     let s = now (a .args .text) in
-    let xs = piecesAs (a .args .entry) (itemsIn s (a .args .items)) in
+    let xs = shapesAs (a .args .entry) (itemsIn s (a .args .items)) in
     let n = how-many (a .args .entry) s (a .args .items) (a .pre .1) in
     rw (list-bracketed (a .args .entry) _ xs (sym (k .is-bare .ensures) ∙ t .if1 .left) n) (c .before .before .put-bracketed .ensures)
 

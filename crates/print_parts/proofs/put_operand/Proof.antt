@@ -21,8 +21,8 @@ put-symbol-requires c κs =
     let h = rw (e .operand .given .1) at (e .before .before .before .before .pre) in
     (h .1, h .2)
 
-put-list-requires : tie.Need-put-list-requires
-put-list-requires c κs =
+put-names-requires : tie.Need-put-names-requires
+put-names-requires c κs =
     let e = c .before .before in
     let a = e .before .before .before .before in
     let h = rw (e .operand2 .given .1) at (a .pre) in
@@ -40,7 +40,7 @@ returns-3 : tie.Need-returns-3
 returns-3 c =
     let e = c .before .before .before .before .before in
     let a = e .before .before .before .before .args in
-    rw (e .operand2 .given .1, listed-names (now (a .text)) (e .operand2 .given .0 .0)) (c .before .before .put-list .ensures)
+    rw (e .operand2 .given .1, listed-names (now (a .text)) (e .operand2 .given .0 .0)) (c .before .before .put-names .ensures)
 
 pub put-operand-spec : {M : Type 1} → statement M
 put-operand-spec =
@@ -51,7 +51,7 @@ put-operand-spec =
     (λ c. search needs)
     put-symbol-requires
     (λ c. search needs)
-    put-list-requires
+    put-names-requires
     (λ c. search needs)
     returns
     (λ c. search needs)

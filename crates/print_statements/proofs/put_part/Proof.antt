@@ -49,8 +49,8 @@ put-name-requires c κs =
     let h = rw (e .part4 .given .1) at (e .before .before .before .before .pre) in
     (h .2, room-same _ (name-alone (nameIn _ (e .part4 .given .0 .0))) (h .3))
 
-put-values-requires : tie.Need-put-values-requires
-put-values-requires c κs =
+put-names-requires : tie.Need-put-names-requires
+put-names-requires c κs =
     let e = c .before .before in
     let h = rw (e .part5 .given .1) at (e .before .before .before .before .pre) in
     (h .0, h .2, h .3)
@@ -83,7 +83,7 @@ returns-7 : tie.Need-returns-7
 returns-7 c = rw (c .before .before .before .before .before .part4 .given .1, name-alone _) (c .before .before .put-name .ensures)
 
 returns-8 : tie.Need-returns-8
-returns-8 c = rw (c .before .before .before .before .before .part5 .given .1) (c .before .before .put-values .ensures)
+returns-8 c = rw (c .before .before .before .before .before .part5 .given .1) (c .before .before .put-names .ensures)
 
 returns-9 : tie.Need-returns-9
 returns-9 c =
@@ -107,7 +107,7 @@ put-part-spec =
     (λ c. search needs)
     put-name-requires
     (λ c. search needs)
-    put-values-requires
+    put-names-requires
     (λ c. search needs)
     put-operator-requires
     returns

@@ -35,12 +35,6 @@ number-requires c κs =
     let r = known-number (here d) (c .before .match .keys2) in
     (d .before .before .pre, number-stands _ (d .token .result) (c .named2 .ensures) r, r .within)
 
-symbol-requires : tie.Need-symbol-requires
-symbol-requires c κs =
-    let d = c .before .before in
-    let r = known-mark (here d) 64 (c .match .keys5) (lit≤ tt) in
-    (d .before .before .pre, record { tokens = r .there; further = r .wide })
-
 returns : tie.Need-returns
 unfolding turn argThen ArgFurther argIn Fits
 returns c =
@@ -48,7 +42,7 @@ returns c =
     let s = now (d .before .before .args .text) in
     let limit = d .before .before .args .limit in
     let r = known-word (here d) (c .before .match .keys1) in (
-      (λ call e.
+      (λ call.
           read-token limit _ (syntax.argument call) _ _ _ r
           ∙ ap (λ (x : Name). readIn limit s (argumentRead call (single (record { kind = aWord; name = x }))) (d .token .result .next .at))
           (same-name s (d .token .result) (c .named .ensures))),
@@ -62,7 +56,7 @@ returns-2 c =
     let s = now (d .before .before .args .text) in
     let limit = d .before .before .args .limit in
     let r = known-number (here d) (c .before .before .match .keys2) in (
-      (λ call e.
+      (λ call.
           read-token limit _ (syntax.argument call) _ _ _ r
           ∙ ap (λ (x : Name). readIn limit s (numberRead call x) (d .token .result .next .at))
           (same-name s (d .token .result) (c .before .named2 .ensures))
@@ -75,14 +69,14 @@ unfolding turn argThen ArgFurther argIn Fits
 returns-3 c =
     let d = c .before .before in
     let r = known-mark (here d) 42 (c .match .keys3) (lit≤ tt) in
-    ((λ call e. read-token (d .before .before .args .limit) _ (syntax.argument call) _ _ _ r), (omega (arith, r .ahead, r .wide), r .within, tt))
+    ((λ call. read-token (d .before .before .args .limit) _ (syntax.argument call) _ _ _ r), (omega (arith, r .ahead, r .wide), r .within, tt))
 
 returns-4 : tie.Need-returns-4
 unfolding turn argThen ArgFurther argIn Fits
 returns-4 c =
     let d = c .before .before in
     let r = known-mark (here d) 43 (c .match .keys4) (lit≤ tt) in
-    ((λ call e. read-token (d .before .before .args .limit) _ (syntax.argument call) _ _ _ r), (omega (arith, r .ahead, r .wide), r .within, tt))
+    ((λ call. read-token (d .before .before .args .limit) _ (syntax.argument call) _ _ _ r), (omega (arith, r .ahead, r .wide), r .within, tt))
 
 returns-5 : tie.Need-returns-5
 unfolding turn
@@ -90,7 +84,7 @@ returns-5 c =
     let d = c .before .before .before in
     let limit = d .before .before .args .limit in
     let r = known-mark (here d) 64 (c .before .match .keys5) (lit≤ tt) in (
-      (λ call e. read-token limit _ (syntax.argument call) _ _ _ r ∙ c .symbol .ensures .0 limit call),
+      (λ call. read-token limit _ (syntax.argument call) _ _ _ r ∙ c .symbol .ensures .0 limit call),
       further _ _ _ (c .symbol .result) (omega (arith, r .ahead, r .wide)) (c .symbol .ensures .1),
     )
 
@@ -100,7 +94,7 @@ returns-6 c =
     let d = c .before .before .before in
     let limit = d .before .before .args .limit in
     let r = known-mark (here d) 91 (c .before .match .keys6) (lit≤ tt) in (
-      (λ call e. read-token limit _ (syntax.argument call) _ _ _ r ∙ c .array .ensures .0 limit call e),
+      (λ call. read-token limit _ (syntax.argument call) _ _ _ r ∙ c .array .ensures .0 limit call),
       further _ _ _ (c .array .result) (omega (arith, r .ahead, r .wide)) (c .array .ensures .1),
     )
 
@@ -109,16 +103,16 @@ unfolding turn argThen ArgFurther argIn Fits
 returns-7 c =
     let d = c .before .before in
     let r = known-mark (here d) 41 (c .match .keys7) (lit≤ tt) in
-    ((λ call e. read-token (d .before .before .args .limit) _ (syntax.argument call) _ _ _ r), (omega (arith, r .ahead, r .wide), r .within))
+    ((λ call. read-token (d .before .before .args .limit) _ (syntax.argument call) _ _ _ r), (omega (arith, r .ahead, r .wide), r .within))
 
 returns-8 : tie.Need-returns-8
 unfolding turn argThen ArgFurther
 returns-8 c =
     let d = c .before .before .before in
     let n = c .before .match .rest in (
-      (λ call e.
-          rejected (d .before .before .args .limit) _ (syntax.argument call) _ (d .token .result) (here d) (λ w q. absurd (n .0 .0 .0 .0 .0 .0 .1 q))
-          (λ w q. absurd (n .0 .0 .0 .0 .0 .1 q))
+      (λ call.
+          rejected (d .before .before .args .limit) _ (syntax.argument call) _ (d .token .result) (here d) (λ w e. absurd (n .0 .0 .0 .0 .0 .0 .1 e))
+          (λ w e. absurd (n .0 .0 .0 .0 .0 .1 e))
           (λ h.
           simp (
             ne-eqb _ 42 (n .0 .0 .0 .0 .1),
@@ -139,7 +133,7 @@ argument-spec =
     named-requires
     named-requires-2
     number-requires
-    symbol-requires
+    (λ c κs. search needs)
     (λ c κs. search needs)
     (λ c κs. search needs)
     returns

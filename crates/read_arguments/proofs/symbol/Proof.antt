@@ -8,7 +8,7 @@ use Rattle.reading.specs.Syntax.{turn, atSign, argumentRead}
 use Rattle.tokens.proofs.Views.{Known, known, known-word}
 use Rattle.read_arguments.specs.Answers.{readIn, refusedBy, argThen, ArgFurther}
 use Rattle.read_arguments.proofs.Reading.{read-token, rejected}
-use Rattle.read_arguments.proofs.Names.{same-name, symbol-stands}
+use Rattle.read_arguments.proofs.Names.{same-name, in-text}
 use Rattle.read_forms.specs.Forms.{argIn}
 use Rattle.read_forms.specs.Fits.{Fits}
 use borrow.Author.Needs.{needs}
@@ -18,9 +18,6 @@ use Rattle.read_arguments.proofs.symbol.Tie as tie
 -- what the token's kind tells
 here : (d : tie.After-token) → Known (now (d .before .before .args .text)) (d .before .before .args .cur .at) (d .token .result)
 here d = known _ _ (d .token .result) (d .token .ensures)
-
-token-requires : tie.Need-token-requires
-token-requires c κs = c .before .pre .0
 
 returns : tie.Need-returns
 unfolding turn argThen ArgFurther
@@ -47,9 +44,9 @@ returns-2 c =
           read-token limit _ (atSign call (d .before .before .args .sign)) _ _ _ r
           ∙ ap (λ (x : Name). readIn limit s (argumentRead call (symbol (d .before .before .args .sign) x)) (d .token .result .next .at))
           (same-name s (d .token .result) n)),
-      (omega (arith, r .ahead, r .wide), r .within, symbol-stands s (d .token .result) n (d .before .before .pre .1) r),
+      (omega (arith, r .ahead, r .wide), r .within, in-text s (d .token .result) n r),
     )
 
 pub symbol-spec : {M : Type 1} → statement M
 symbol-spec =
-    tie.close (tie.spec token-requires (λ c κs. search needs) returns named-requires returns-2)
+    tie.close (tie.spec (λ c κs. search needs) (λ c κs. search needs) returns named-requires returns-2)

@@ -30,7 +30,7 @@ returns c =
     let a = i .before .before .before .before .before .args in
     rw (items-are _ _ (i .before .before .before .before .before .pre .1), c .wrong .ensures)
     (left-refused (i .before .before .loop .inv) (i .before .loop-test .taken) (i .entry-at .ensures) _
-    (count-word (a .limit) (a .at) (now (a .text)) (i .entry-at .result) (sym (c .before .before .no-number .ensures) ∙ c .before .if1 .taken)))
+    (count-word (a .limit) (a .at) (now (a .text)) (i .entry-at .result) (sym (c .before .before .is-word .ensures) ∙ c .before .if1 .taken)))
 
 count-at-requires : tie.Need-count-at-requires Inv-loop μ-loop
 count-at-requires c κs = c .before .before .before .entry-at .ensures .inside
@@ -42,7 +42,7 @@ returns-2 c =
     let a = i .before .before .before .before .before .args in
     rw (items-are _ _ (i .before .before .before .before .before .pre .1))
     (left-refused (i .before .before .loop .inv) (i .before .loop-test .taken) (i .entry-at .ensures) _
-    (count-refused (a .limit) (a .at) (now (a .text)) (i .entry-at .result) (sym (m .before .before .before .no-number .ensures) ∙ m .before .before .if1 .left)
+    (count-refused (a .limit) (a .at) (now (a .text)) (i .entry-at .result) (sym (m .before .before .before .is-word .ensures) ∙ m .before .before .if1 .left)
     (sym (c .enum-told .given .1) ∙ m .count-at .ensures)))
 
 loop-again : tie.Need-loop-again Inv-loop μ-loop
@@ -52,7 +52,7 @@ loop-again c =
     let a = i .before .before .before .before .before .args in
     rw (c .after-entry .ensures)
     (left-next (i .before .before .loop .inv) (i .before .loop-test .taken) (i .entry-at .ensures)
-    (count-fine (a .limit) (a .at) (now (a .text)) (i .entry-at .result) _ (sym (m .before .before .before .no-number .ensures) ∙ m .before .before .if1 .left)
+    (count-fine (a .limit) (a .at) (now (a .text)) (i .entry-at .result) _ (sym (m .before .before .before .is-word .ensures) ∙ m .before .before .if1 .left)
     (sym (c .before .enum-told2 .given .1) ∙ m .count-at .ensures)))
 
 returns-3 : tie.Need-returns-3 Inv-loop μ-loop

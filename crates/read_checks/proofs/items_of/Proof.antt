@@ -15,7 +15,7 @@ use Rattle.read_checks.proofs.items_of.Tie as tie
 
 returns : tie.Need-returns
 unfolding itemsAs itemsOf argIn entries
-returns c = λ s h. let e = c .before .before .before .before .arg4 .given in rw (e .1, c .wrong .ensures, no-items s (e .0 .1 .0) (c .before .if1 .taken))
+returns c = λ s h. let e = c .before .before .before .before .arg3 .given in rw (e .1, c .wrong .ensures, no-items s (e .0 .1 .0) (c .before .if1 .taken))
 
 returns-2 : tie.Need-returns-2
 unfolding itemsAs itemsOf argIn Fits
@@ -26,23 +26,17 @@ unfolding itemsAs itemsOf argIn Fits
 returns-3 c = λ s h. let e = c .before .before .arg2 .given in rw (e .1, c .alone2 .ensures, stands-one (rw (e .1) at h))
 
 returns-4 : tie.Need-returns-4
-unfolding itemsAs itemsOf argIn Fits
-returns-4 c = λ s h. let e = c .before .before .arg3 .given in rw (e .1, c .alone3 .ensures, stands-one (rw (e .1) at h))
+unfolding itemsAs argIn Fits
+returns-4 c = λ s h. let e = c .before .before .before .arg3 .given in rw (e .1, items-array (listed-some s (e .0 .1 .0) (rw (e .1) at h) (c .if1 .left)))
 
 returns-5 : tie.Need-returns-5
-unfolding itemsAs argIn Fits
-returns-5 c = λ s h. let e = c .before .before .before .arg4 .given in rw (e .1, items-array (listed-some s (e .0 .1 .0) (rw (e .1) at h) (c .if1 .left)))
-
-returns-6 : tie.Need-returns-6
 unfolding itemsAs
-returns-6 c = λ s h. rw (c .wrong2 .ensures, c .before .place-of .ensures s) (sym (no-values s _ (c .before .before .match .keys5)))
+returns-5 c = λ s h. rw (c .wrong2 .ensures, c .before .place-of .ensures s) (sym (no-values s _ (c .before .before .match .keys4)))
 
 pub items-of-spec : {M : Type 1} → statement M
 items-of-spec =
     tie.close
     (tie.spec
-    (λ c. search needs)
-    (λ c κs. search needs)
     (λ c. search needs)
     (λ c κs. search needs)
     (λ c. search needs)
@@ -55,5 +49,4 @@ items-of-spec =
     returns-2
     returns-3
     returns-4
-    returns-5
-    returns-6)
+    returns-5)

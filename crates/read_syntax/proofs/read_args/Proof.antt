@@ -21,7 +21,7 @@ use Rattle.read_arguments.specs.declared.ArgRead.the-variants as argRead
 use Rattle.read_arguments.specs.Answers.{readIn, stepIn, argThen, ArgFurther, afterThen, AfterFurther}
 use Rattle.read_syntax.specs.declared.Head.{Head}
 use Rattle.read_syntax.specs.Answers.{callOf, takesOne, callThen, CallFurther}
-use Rattle.read_syntax.proofs.Going.{let-one, misplaced-then, comma-one, comma-more, closed-made, empty-one, empty-none, empty-some}
+use Rattle.read_syntax.proofs.Going.{misplaced-then, comma-one, comma-more, closed-made, empty-one, empty-none, empty-some}
 use Rattle.read_syntax.proofs.Held.{argsOf, addedAt, added, Holds, none-held, none-fit, added-fit, added-held}
 use Rattle.read_syntax.proofs.read_args.Statement.{statement}
 use Rattle.read_syntax.proofs.read_args.Tie as tie
@@ -90,7 +90,6 @@ told o k =
     let l = o .before in
     let a = l .before .before .before .args in
     l .loop .inv .same k ∙ o .argument .ensures .0 (callOf (now (a .text)) k (a .head) (l .loop .inv .before))
-    (let-one (now (a .text)) k (a .head) (l .loop .inv .before) _ (l .before .takes-one .ensures))
 
 -- and from what stands behind it
 beyond :

@@ -3,24 +3,22 @@
 use mathlib.Core.Path.{_≡_, sym, _∙_, ap, subst, subst₂}
 use mathlib.Core.Bool.{cond}
 use mathlib.Core.List.{List}
-use Prim.Native.Nat.{ℕ, _+_}
-use native.Mathlib.Omega.{arith}
+use Prim.Native.Nat.{ℕ}
 use denote.Ref.{now}
 use borrow.Author.Needs.{needs}
 use Rattle.reading.specs.Answer.{Answer}
 use Rattle.resolving.specs.Context.{Context}
 use Rattle.resolving.specs.Handed.{handedContext}
-use Rattle.resolving.specs.Operands.{held}
+use Rattle.resolving.specs.Operands.{known, held}
 use Rattle.resolve_context.specs.declared.Layout.{Layout}
 use Rattle.resolve_context.specs.declared.Names.{Names}
 use Rattle.resolve_context.specs.Lists.{namesIn, Sound, Stands, layoutOf}
 use Rattle.resolve_context.proofs.Meaning.{handed-heads-fit}
 use Rattle.resolve_symbols.specs.declared.Looked.{Looked}
 use Rattle.resolve_symbols.specs.declared.Looked.the-variants as looked
-use Rattle.resolve_symbols.specs.Sources.{LookedFits}
-use Rattle.resolve_operands.specs.Entries.{EntriesAs, targetOf, lookedNames, StandsFor, operandNames, parametersIn, covariatesIn}
+use Rattle.resolve_symbols.specs.Sources.{lookedAs, LookedFits}
+use Rattle.resolve_operands.specs.Entries.{EntriesAs, targetOf, StandsFor, operandNames, parametersIn, covariatesIn}
 use Rattle.resolve_operands.proofs.Sources.{target-sound, operand-held}
-use Rattle.resolve_expanding.proofs.Expanding.{lets-fewer}
 use Rattle.resolve_operands.proofs.operand_entries.Statement.{statement}
 use Rattle.resolve_operands.proofs.operand_entries.Tie as tie
 
@@ -59,21 +57,26 @@ module _ (d : tie.After-source-of) where
   sound = subst (Sound b l) (sym (d .before .target-of .ensures)) (target-sound b l layout layout-stands (start d .args .every))
 
   -- what was found, by its kind, can be read, and held to the target it is the answer
-  found-fits : (r : Looked) → d .source-of .result ≡ r → LookedFits s (start d .args .n) r
-  found-fits r e = subst (LookedFits s (start d .args .n)) e (d .source-of .ensures .0)
+  found-fits : (r : Looked) → d .source-of .result ≡ r → LookedFits s r
+  found-fits r e = subst (LookedFits s) e (d .source-of .ensures .0)
 
   found-held :
       (r : Looked)
       → d .source-of .result ≡ r
       → let a = start d .args in
-      held (namesIn b l target) (lookedNames (handedContext b l) s (now (a .lets)) r)
+      held (namesIn b l target) (known (lookedAs (handedContext b l) s r))
       ≡ cond (a .every) (covariatesIn s (now (a .lets)) (a .n) b l (a .operand))
       (parametersIn s (now (a .lets)) (a .n) b l (now (a .star)) (a .operand))
   found-held r e =
       let a = start d .args in
-      ap (λ (n : Names). held (namesIn b l n) (lookedNames (handedContext b l) s (now (a .lets)) r)) (d .before .target-of .ensures)
+      ap (λ (n : Names). held (namesIn b l n) (known (lookedAs (handedContext b l) s r))) (d .before .target-of .ensures)
       ∙ operand-held b l layout layout-stands s (now (a .lets)) (a .n) (now (a .star)) (a .every) (a .operand) r
-      (subst (λ (k : Looked). StandsFor s (now (a .lets)) layout k names) e (d .source-of .ensures .1))
+      (subst (λ (k : Looked). StandsFor s layout k names) e (d .source-of .ensures .1))
+
+returns : tie.Need-returns
+returns c =
+    let d = c .before .before in
+    sym (found-held d looked.Unknown (c .enum-told .given .1))
 
 hold-requires : tie.Need-hold-requires
 hold-requires c κs =
@@ -81,40 +84,14 @@ hold-requires c κs =
     let d = x .before .before in
     (start d .pre .0, layout-stands d, found-fits d _ (x .source .given .1), sound d, start d .pre .4)
 
-hold-let-requires : tie.Need-hold-let-requires
-hold-let-requires c κs =
-    let x = c .before .before in
-    let d = x .before .before in
-    (
-      start d .pre .0,
-      layout-stands d,
-      lets-fewer _ _ _ (x .k .given .0 .0 + 1) (start d .pre .2) (omega (arith, found-fits d _ (x .k .given .1))),
-      sound d,
-      start d .pre .4,
-    )
-
-returns : tie.Need-returns
-returns c =
+returns-2 : tie.Need-returns-2
+returns-2 c =
     let x = c .before .before .before in
     let d = x .before .before in
     let is = c .hold .last .1 .1 .1 .1 .1 .1 .1 .0 in
     subst₂ (λ (n : Names) (a : Answer (List ℕ)). EntriesAs (n .count) a is (c .hold .result)) (target-there d)
     (found-held d (looked.Names (x .source .given .0 .0)) (x .source .given .1))
     (c .hold .ensures)
-
-returns-2 : tie.Need-returns-2
-returns-2 c =
-    let x = c .before .before .before in
-    let d = x .before .before in
-    let is = c .hold-let .last .1 .1 .1 .1 .1 .1 .1 .1 .0 in
-    subst₂ (λ (n : Names) (a : Answer (List ℕ)). EntriesAs (n .count) a is (c .hold-let .result)) (target-there d)
-    (found-held d (looked.Let (x .k .given .0 .0)) (x .k .given .1))
-    (c .hold-let .ensures)
-
-returns-3 : tie.Need-returns-3
-returns-3 c =
-    let d = c .before .before in
-    sym (found-held d looked.Unknown (c .enum-told .given .1))
 
 pub operand-entries-spec : {M : Type 1} → statement M
 operand-entries-spec =
@@ -124,10 +101,7 @@ operand-entries-spec =
     (λ c κs. search needs)
     (λ c κs. let s = c .before .before .before .before .before .before .before in (s .pre .2, s .pre .3))
     (λ c. search needs)
-    hold-requires
-    (λ c. search needs)
-    hold-let-requires
     (λ c. search needs)
     returns
-    returns-2
-    returns-3)
+    hold-requires
+    returns-2)

@@ -34,7 +34,7 @@ returns c =
     let a = s .args in
     let is = d .operand .given .0 .0 in (
       subst (OperandFits (now (a .text))) (d .operand .given .1) (s .pre .1),
-      stands-same (now (a .text)) (now (a .lets)) (a .layout) (Names (Values is)) (names s) (d .operand .given .1)
+      stands-same (now (a .text)) (a .layout) (Names (Values is)) (names s) (d .operand .given .1)
           (names-stand (now (a .text)) (now (a .lets)) (a .n) (a .layout) (star s) is),
     )
 
@@ -49,7 +49,7 @@ returns-2 c =
     let s = c .before .before .before .before .before .before in
     let a = s .args in (
       tt,
-      stands-same (now (a .text)) (now (a .lets)) (a .layout) (Names (Given Covariates)) (names s) (c .before .enum-told .given .1)
+      stands-same (now (a .text)) (a .layout) (Names (Given Covariates)) (names s) (c .before .enum-told .given .1)
           (every-stands (now (a .text)) (now (a .lets)) (a .n) (a .layout) (now (a .star)) (a .every) (c .if1 .taken)),
     )
 
@@ -57,20 +57,20 @@ returns-2 c =
 word-looked :
     (c : tie.After-look-up)
     → let s = c .before .before .before .before .before in
-    StandsFor (now (s .args .text)) (now (s .args .lets)) (s .args .layout) (c .look-up .result) (names s (s .args .operand))
+    StandsFor (now (s .args .text)) (s .args .layout) (c .look-up .result) (names s (s .args .operand))
 word-looked c =
     let s = c .before .before .before .before .before in
     let a = s .args in
     let w = now (c .before .match .word) in
     ⊎-elim
     (λ v.
-    stands-same (now (a .text)) (now (a .lets)) (a .layout) (c .look-up .result) (names s) (v .1 .given .1)
+    stands-same (now (a .text)) (a .layout) (c .look-up .result) (names s) (v .1 .given .1)
     (word-stands (now (a .text)) (now (a .lets)) (a .n) (a .layout) (star s) (v .1 .given .0 .0) w (c .look-up .result)
-    (ap now (v .4) ∙ v .3 .ensures) (c .look-up .ensures .1) (c .look-up .ensures .0)))
+    (ap now (v .4) ∙ v .3 .ensures) (c .look-up .ensures .1)))
     (λ v.
-    stands-same (now (a .text)) (now (a .lets)) (a .layout) (c .look-up .result) (names s) (v .1 .given .1)
+    stands-same (now (a .text)) (a .layout) (c .look-up .result) (names s) (v .1 .given .1)
     (star-stands (now (a .text)) (now (a .lets)) (a .n) (a .layout) (now (a .star)) (a .every) w (c .look-up .result) (v .2 .left)
-    (ap now (v .3)) (c .look-up .ensures .1) (c .look-up .ensures .0)))
+    (ap now (v .3)) (c .look-up .ensures .1)))
     (c .before .match .came)
 
 pub source-of-spec : {M : Type 1} → statement M

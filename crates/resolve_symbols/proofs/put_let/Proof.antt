@@ -15,23 +15,21 @@ use Rattle.resolve_symbols.proofs.put_let.Tie as tie
 
 returns : tie.Need-returns
 returns c =
-    let m = c .before .before .before in
-    let l = m .before in
+    let l = c .before .before .before in
     let start = l .before .before .before .before in
     let a = start .args in
     let p = start .pre in
     let s = now (a .text) in
     let cut : ℕ → Items = λ o. record { first = cursor o; count = a .values .count } in
-    let-put s (now (a .lets)) (a .n) (p .1) (p .2) (p .3) (a .name) (cut (l .least .result)) (m .cites .result) (a .index) (a .values) (p .6)
-    (subst (λ (o : ℕ). Listed s (cut o)) (sym (l .least .ensures)) (listed-cut s (a .values) (p .7)))
-    (ap (λ (o : ℕ). itemsIn s (cut o)) (l .least .ensures) ∙ items-cut s (a .values)) (m .cites .ensures)
+    let-put s (now (a .lets)) (a .n) (p .0) (p .1) (p .2) (a .name) (cut (l .least .result)) (a .values) (p .4)
+    (subst (λ (o : ℕ). Listed s (cut o)) (sym (l .least .ensures)) (listed-cut s (a .values) (p .5)))
+    (ap (λ (o : ℕ). itemsIn s (cut o)) (l .least .ensures) ∙ items-cut s (a .values))
 
 pub put-let-spec : {M : Type 1} → statement M
 put-let-spec =
     tie.close
     (tie.spec
     (λ c κs. search needs)
-    (λ c κs. let s = c .before .before .before .before in (s .pre .0, s .pre .7))
     (λ c. search needs)
     (λ c. search needs)
     (λ c. search needs)
@@ -49,11 +47,4 @@ put-let-spec =
     (λ c. search needs)
     (λ c. simp length-set (search needs))
     (λ c. search needs)
-    (λ c. search needs)
-    (λ c. simp length-set (search needs))
-    (λ c. search needs)
-    (λ c. search needs)
-    (λ c. search needs)
-    (λ c. simp length-set (search needs))
-    (λ c. simp length-set)
     returns)

@@ -6,10 +6,10 @@ use Rattle.resolve_symbols.proofs.values_at.Statement.{statement}
 use Rattle.resolve_symbols.proofs.values_at.Tie as tie
 
 cast-at : tie.Need-cast-at
-cast-at c = omega (arith, c .shared-slice-known .given (6 * c .before .args .k + 2))
+cast-at c = omega (arith, c .shared-slice-known .given (4 * c .before .args .k + 2))
 
 cast-count : tie.Need-cast-count
-cast-count c = omega (arith, c .shared-slice-known2 .given (6 * c .before .before .args .k + 3))
+cast-count c = omega (arith, c .shared-slice-known2 .given (4 * c .before .before .args .k + 3))
 
 pub values-at-spec : {M : Type 1} → statement M
 values-at-spec =

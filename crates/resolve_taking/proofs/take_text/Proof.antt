@@ -4,7 +4,6 @@
 use Prim.Native.Nat.{ℕ, suc, _-_, _≤_, _<_}
 use mathlib.Core.Path.{_≡_, refl, _∙_, ap, sym, subst}
 use mathlib.Core.Logic.{⊎-elim}
-use mathlib.Core.Option.{some}
 use native.Mathlib.Omega.{arith}
 use lib.ListN.{length, drop}
 use denote.Ref.{now}
@@ -22,7 +21,7 @@ use Rattle.read_statements.specs.Answers.{readAt, nextThen, NextFurther}
 use Rattle.print_writing.proofs.Writing.{same-room}
 use Rattle.resolve_statements.specs.Tallies.{BringAs, PrintsAs}
 use Rattle.resolve_taking.specs.Again.{startAfter}
-use Rattle.resolve_taking.specs.Collected.{present, CollectedOnce, CollectedAll}
+use Rattle.resolve_taking.specs.Collected.{present, CollectedAll}
 use Rattle.resolve_taking.specs.Taken.{TakenAs}
 use Rattle.resolve_taking.proofs.Reading.{
   Reading,
@@ -43,8 +42,7 @@ use Rattle.resolve_taking.proofs.Reading.{
 }
 use Rattle.resolve_taking.proofs.Gathering.{Gathering, still-quiet, started, all-gathered, feature-passed, key-again, one-gathered, let-stands}
 use Rattle.resolve_taking.proofs.Bringing.{Bringing, none-brought, one-brought, one-refused, all-brought}
-use Rattle.resolve_taking.proofs.Refusing.{text-refused, context-refused, let-refused, late-refused, statement-refused}
-use Rattle.resolve_taking.proofs.Citing.{late-within, one-late, none-late}
+use Rattle.resolve_taking.proofs.Refusing.{text-refused, context-refused, let-refused, statement-refused}
 use Rattle.resolve_taking.proofs.take_text.Statement.{statement}
 use Rattle.resolve_taking.proofs.take_text.Tie as tie
 
@@ -287,12 +285,10 @@ put-let-requires c κs =
     let x = e .before .before .before .before in
     let m = let-turn e .before in
     let s = start (loop-at (read-at m)) in (
-      s .pre .0,
       m .loop2 .inv .0 .fit,
       below e,
       omega (arith, c .before .if3 .left),
       s .pre .3 .short,
-      within (let-turn e) .2,
       let-here x .0,
       let-here x .1,
     )
@@ -345,70 +341,30 @@ loop2-again-2 c =
     )
 
 -- all LETs stand in the run
-gathered : (b : tie.After-loop2 Inv-loop μ-loop Inv-loop2 μ-loop2 Inv-loop3 μ-loop3)
+collected : (b : tie.After-loop2 Inv-loop μ-loop Inv-loop2 μ-loop2 Inv-loop3 μ-loop3)
     → let m = b .before in
     let a = start (loop-at (read-at m)) .args in
-    CollectedOnce (now (a .text)) (textStatements (a .limit) (now (a .text))) (m .loop2 .lets) (m .loop2 .n)
-gathered b =
+    CollectedAll (now (a .text)) (textStatements (a .limit) (now (a .text))) (m .loop2 .lets) (m .loop2 .n)
+collected b =
     let m = b .before in
     let a = start (loop-at (read-at m)) .args in
     let w = whole (read-at m) in
     all-gathered (m .loop2 .inv .0)
     (still-quiet (textStatements (a .limit) (now (a .text))) (loop-at (read-at m) .loop .end) (m .loop2 .i) (omega (arith, b .loop2-test .left)) (w .quiet))
 
-late-let-requires : tie.Need-late-let-requires Inv-loop μ-loop Inv-loop2 μ-loop2 Inv-loop3 μ-loop3
-late-let-requires c κs = let m = c .before .before in (start (loop-at (read-at m)) .pre .0, m .loop2 .inv .0 .fit)
-
--- the LET that cites itself or a later one
-late-at : (c : tie.After-late Inv-loop μ-loop Inv-loop2 μ-loop2 Inv-loop3 μ-loop3) → let m = c .before .before .before .before .before in c .late .given .0 .0 < m .loop2 .n
-late-at c =
-    let f = c .before .before in
-    let m = f .before .before .before in
-    late-within (now (start (loop-at (read-at m)) .args .text)) (m .loop2 .lets) (m .loop2 .n) (c .late .given .0 .0) (f .late-let .ensures) (c .late .given .1)
-
-index-at-requires : tie.Need-index-at-requires Inv-loop μ-loop Inv-loop2 μ-loop2 Inv-loop3 μ-loop3
-index-at-requires c κs =
-    let l = c .before .before in
-    let m = l .before .before .before .before .before in
-    omega (arith, late-at l, m .loop2 .inv .0 .fit .room)
-
-same-length-3 : tie.Need-same-length-3 Inv-loop μ-loop Inv-loop2 μ-loop2 Inv-loop3 μ-loop3
-same-length-3 c = c .before .before .before .before .before .before .before .before .loop2 .inv .2
-
-returns-5 : tie.Need-returns-5 Inv-loop μ-loop Inv-loop2 μ-loop2 Inv-loop3 μ-loop3
-unfolding TakenAs
-returns-5 c =
-    let l = c .before .before .before in
-    let f = l .before .before in
-    let b = f .before .before in
-    let m = b .before in
-    let g = gathered b in
-    late-refused (start (loop-at (read-at m)) .args .limit) _ _ _ (whole (read-at m) .read) (stands m .is) (g .once)
-    (one-late g (l .late .given .0 .0) (f .late-let .ensures) (l .late .given .1) ∙ ap some (sym (c .index-at .ensures)))
-
--- none does
-abbrev lets-at : tie.At-loop3 Inv-loop μ-loop Inv-loop2 μ-loop2 Inv-loop3 μ-loop3 → tie.At-loop2 Inv-loop μ-loop Inv-loop2 μ-loop2 Inv-loop3 μ-loop3
-lets-at q = q .before .before .before .before .before .before
-
-collected : (q : tie.At-loop3 Inv-loop μ-loop Inv-loop2 μ-loop2 Inv-loop3 μ-loop3)
-    → let m = lets-at q in
-    let a = start (loop-at (read-at m)) .args in
-    CollectedAll (now (a .text)) (textStatements (a .limit) (now (a .text))) (m .loop2 .lets) (m .loop2 .n)
-collected q =
-    let e = q .before in
-    let f = e .before .before in
-    none-late (gathered (f .before .before)) (f .late-let .ensures) (e .enum-told4 .given .1)
-
 -- What they bring.
 
 loop3-holds : tie.Need-loop3-holds Inv-loop μ-loop Inv-loop2 μ-loop2 Inv-loop3 μ-loop3
-loop3-holds c = (none-brought _ _ _ _ _, whole (read-at (c .before .before .before .before .before)) .ahead, refl, refl, refl, omega arith)
+loop3-holds c = (none-brought _ _ _ _ _, whole (read-at (c .before)) .ahead, refl, refl, refl, omega arith)
 
 mul-statement-at-2 : tie.Need-mul-statement-at-2 Inv-loop μ-loop Inv-loop2 μ-loop2 Inv-loop3 μ-loop3
 mul-statement-at-2 c = omega (arith, c .slot2 .ensures .0)
 
 array-copy-out-statement-at-2 : tie.Need-array-copy-out-statement-at-2 Inv-loop μ-loop Inv-loop2 μ-loop2 Inv-loop3 μ-loop3
 array-copy-out-statement-at-2 c = omega (arith, c .slot2 .ensures .0)
+
+abbrev lets-at : tie.At-loop3 Inv-loop μ-loop Inv-loop2 μ-loop2 Inv-loop3 μ-loop3 → tie.At-loop2 Inv-loop μ-loop Inv-loop2 μ-loop2 Inv-loop3 μ-loop3
+lets-at q = q .before .before
 
 within3 : (t : tie.In-loop3 Inv-loop μ-loop Inv-loop2 μ-loop2 Inv-loop3 μ-loop3)
     → let q = t .before in
@@ -493,50 +449,50 @@ loop3-again c =
       omega (arith, turn-at b .loop3-test .taken),
     )
 
-abbrev refused-at : tie.After-known-told7 Inv-loop μ-loop Inv-loop2 μ-loop2 Inv-loop3 μ-loop3 → tie.After-bring-one Inv-loop μ-loop Inv-loop2 μ-loop2 Inv-loop3 μ-loop3
+abbrev refused-at : tie.After-known-told6 Inv-loop μ-loop Inv-loop2 μ-loop2 Inv-loop3 μ-loop3 → tie.After-bring-one Inv-loop μ-loop Inv-loop2 μ-loop2 Inv-loop3 μ-loop3
 refused-at c = bring-at (c .before .before .before)
 
-abbrev loop3-at : tie.After-known-told7 Inv-loop μ-loop Inv-loop2 μ-loop2 Inv-loop3 μ-loop3 → tie.At-loop3 Inv-loop μ-loop Inv-loop2 μ-loop2 Inv-loop3 μ-loop3
+abbrev loop3-at : tie.After-known-told6 Inv-loop μ-loop Inv-loop2 μ-loop2 Inv-loop3 μ-loop3 → tie.At-loop3 Inv-loop μ-loop Inv-loop2 μ-loop2 Inv-loop3 μ-loop3
 loop3-at c = turn-at (refused-at c) .before
 
+same-length-3 : tie.Need-same-length-3 Inv-loop μ-loop Inv-loop2 μ-loop2 Inv-loop3 μ-loop3
+same-length-3 c = search (needs, lets-at (loop3-at c) .loop2 .inv .2)
+
 same-length-4 : tie.Need-same-length-4 Inv-loop μ-loop Inv-loop2 μ-loop2 Inv-loop3 μ-loop3
-same-length-4 c = search (needs, lets-at (loop3-at c) .loop2 .inv .2)
+same-length-4 c = search (needs, loop3-at c .loop3 .inv .3)
 
 same-length-5 : tie.Need-same-length-5 Inv-loop μ-loop Inv-loop2 μ-loop2 Inv-loop3 μ-loop3
-same-length-5 c = search (needs, loop3-at c .loop3 .inv .3)
+same-length-5 c = search (needs, loop3-at c .loop3 .inv .4)
 
 same-length-6 : tie.Need-same-length-6 Inv-loop μ-loop Inv-loop2 μ-loop2 Inv-loop3 μ-loop3
-same-length-6 c = search (needs, loop3-at c .loop3 .inv .4)
+same-length-6 c = search (needs, loop3-at c .loop3 .inv .2)
 
-same-length-7 : tie.Need-same-length-7 Inv-loop μ-loop Inv-loop2 μ-loop2 Inv-loop3 μ-loop3
-same-length-7 c = search (needs, loop3-at c .loop3 .inv .2)
-
-returns-6 : tie.Need-returns-6 Inv-loop μ-loop Inv-loop2 μ-loop2 Inv-loop3 μ-loop3
+returns-5 : tie.Need-returns-5 Inv-loop μ-loop Inv-loop2 μ-loop2 Inv-loop3 μ-loop3
 unfolding TakenAs BringAs
-returns-6 c =
+returns-5 c =
     let x = c .before .number in
     let b = refused-at c in
     let q = loop3-at c in
     let m = lets-at q in
     let h = subst (BringAs _ _ _ _ _ _ _) (x .given .1) (b .bring-one .ensures .0) in
-    statement-refused (start (loop-at (read-at m)) .args .limit) _ _ _ (whole (read-at m) .read) (stands m .is) (collected q)
+    statement-refused (start (loop-at (read-at m)) .args .limit) _ _ _ (whole (read-at m) .read) (stands m .is) (collected (q .before))
     (one-refused (q .loop3 .inv .0) _ (taken-here (read-again b) .first) (x .given .0 .0) h)
 
+same-length-7 : tie.Need-same-length-7 Inv-loop μ-loop Inv-loop2 μ-loop2 Inv-loop3 μ-loop3
+same-length-7 c = lets-at (c .before) .loop2 .inv .2
+
 same-length-8 : tie.Need-same-length-8 Inv-loop μ-loop Inv-loop2 μ-loop2 Inv-loop3 μ-loop3
-same-length-8 c = lets-at (c .before) .loop2 .inv .2
+same-length-8 c = c .before .loop3 .inv .3
 
 same-length-9 : tie.Need-same-length-9 Inv-loop μ-loop Inv-loop2 μ-loop2 Inv-loop3 μ-loop3
-same-length-9 c = c .before .loop3 .inv .3
+same-length-9 c = c .before .loop3 .inv .4
 
 same-length-10 : tie.Need-same-length-10 Inv-loop μ-loop Inv-loop2 μ-loop2 Inv-loop3 μ-loop3
-same-length-10 c = c .before .loop3 .inv .4
+same-length-10 c = c .before .loop3 .inv .2
 
-same-length-11 : tie.Need-same-length-11 Inv-loop μ-loop Inv-loop2 μ-loop2 Inv-loop3 μ-loop3
-same-length-11 c = c .before .loop3 .inv .2
-
-returns-7 : tie.Need-returns-7 Inv-loop μ-loop Inv-loop2 μ-loop2 Inv-loop3 μ-loop3
+returns-6 : tie.Need-returns-6 Inv-loop μ-loop Inv-loop2 μ-loop2 Inv-loop3 μ-loop3
 unfolding TakenAs
-returns-7 c =
+returns-6 c =
     let q = c .before in
     let m = lets-at q in
     let a = start (loop-at (read-at m)) .args in
@@ -549,7 +505,7 @@ returns-7 c =
       most = omega (arith, w .many, w .most);
       run = m .loop2 .lets;
       n = m .loop2 .n;
-      collected = collected q;
+      collected = collected (q .before);
       brought =
           record {
             what = g .what;
@@ -612,12 +568,6 @@ take-text-spec =
     add-i-2
     loop2-less-2
     loop2-again-2
-    late-let-requires
-    (λ c. search needs)
-    index-at-requires
-    same-length-3
-    returns-5
-    (λ c. search needs)
     loop3-holds
     (λ c κs. search needs)
     mul-statement-at-2
@@ -629,13 +579,13 @@ take-text-spec =
     loop3-less
     loop3-again
     (λ c. search needs)
+    same-length-3
     same-length-4
     same-length-5
     same-length-6
+    returns-5
     same-length-7
-    returns-6
     same-length-8
     same-length-9
     same-length-10
-    same-length-11
-    returns-7)
+    returns-6)
