@@ -1,1 +1,3 @@
 // Printing: the definition of what a canonical text is stands in specs/.
+#![tactic(auto)]
+

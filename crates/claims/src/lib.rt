@@ -1,1 +1,3 @@
 // What is claimed of the calls together: no code.
+#![tactic(auto)]
+

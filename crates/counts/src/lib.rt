@@ -1,9 +1,11 @@
 // Counts: the text of a number, of any length, to its value.
+#![tactic(auto)]
+
 ghost use Rattle.std.specs.Prelude.{◌≡◌};
 ghost use Rattle.counts.specs.Count.{is_digit, count_of};
 
 // A count, or a number that is none: it has a decimal point, or is above the limit or what 32 bits hold.
-#[derive(Drop)]
+#[derive(Clone, Copy)]
 pub enum Counted {
     Count(u32),
     Refused,

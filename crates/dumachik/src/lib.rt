@@ -1,4 +1,6 @@
 // The calls for programs in other languages. A slice is a pointer and a length; an answer is one number (`word`).
+#![tactic(auto)]
+
 ghost use Rattle.std.specs.Prelude.{◌≡◌, length};
 ghost use Rattle.tokens.specs.Lex.{tokens};
 ghost use Rattle.tokens.specs.Next.{scanned};

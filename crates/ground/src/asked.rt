@@ -5,7 +5,7 @@ use print_lines::Asked;
 use show_pages::pages;
 
 // What is asked for, under which ceiling for counts, and the index of the context file's name.
-#[derive(Drop)]
+#[derive(Clone, Copy)]
 pub struct Wish {
     pub asked: Asked,
     pub ceiling: u32,
@@ -13,14 +13,14 @@ pub struct Wish {
 }
 
 // Lines, or nothing where the arguments are not as they should be.
-#[derive(Drop)]
+#[derive(Clone, Copy)]
 pub enum Wanted {
     Lines(Wish),
     Nothing,
 }
 
 // What a word asks for; a file's name is asked for its ground text.
-#[derive(Drop)]
+#[derive(Clone, Copy)]
 enum Word {
     Lines(Asked),
     Nothing,

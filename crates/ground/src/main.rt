@@ -2,6 +2,8 @@
 // the ground text and a newline, or `refused`, the fault's number and its place. A word asks for the effects or for the notes as lines. Where
 // the text is refused a person also gets the cause on standard error, and where it is not, the notes. What is written on standard output is made
 // by `resolve_lines`, whose contract says it.
+#![tactic(auto)]
+
 mod asked;
 mod ground_files;
 

@@ -1,4 +1,6 @@
 // The labels of the modes and the keywords of the features: looked up ignoring case, and given by their places.
+#![tactic(auto)]
+
 ghost use Rattle.std.specs.Prelude.{◌≡◌, true, [], ◌<◌, length, get_or};
 ghost use Rattle.labels.specs.Word.{lower, same_word, find};
 ghost use Rattle.labels.specs.Label.{mark_of, labels_of, keywords};
@@ -7,7 +9,7 @@ ghost use Rattle.labels.specs.Row.{label_at, labels_in, row_fits, rows_fit, Hold
 ghost use Rattle.labels.specs.Likely.{likely_place};
 
 // The mode families of the grammar.
-#[derive(Drop)]
+#[derive(Clone, Copy)]
 pub enum Family {
     AbsorptionMode,
     EliminationMode,
@@ -23,7 +25,7 @@ pub enum Family {
 }
 
 // The place of a label in its family, counted from zero, or no label.
-#[derive(Drop)]
+#[derive(Clone, Copy)]
 pub enum Found {
     Place(usize),
     Nothing,
@@ -160,7 +162,7 @@ fn find_rows(table: &[u8], first: usize, count: usize, word: &[u8]) -> Found
 }
 
 // The rows of a family, which are those with its mark: the first, and how many.
-#[derive(Drop)]
+#[derive(Clone, Copy)]
 struct Rows(usize, usize);
 
 // A look-up visits the rows of one family alone.

@@ -1,6 +1,8 @@
 // Reads a search space from a file or from standard input and writes its canonical text and a newline, or `refused`, the fault's number and
 // its place. Where it is refused a person also gets the cause on standard error. Nothing is written on standard output before all was read.
 // With `--profile` it writes `ok` where the space fits the PK-only profile. What is written is made by `print_answers`, whose contracts say it.
+#![tactic(auto)]
+
 ghost use Rattle.std.specs.Prelude.{◌≤◌, length};
 
 use print_render::Printed;
@@ -11,7 +13,7 @@ use show_pages::pages;
 use show_texts::{profile_messages, text_messages};
 
 // What is asked about a text, under a ceiling for counts.
-#[derive(Drop)]
+#[derive(Clone, Copy)]
 enum Asked {
     Print(u32),
     Profile(u32),

@@ -1,6 +1,8 @@
 // All statements of a text as 32-bit numbers in the caller's buffer, for programs in other languages: the numbers of each, one statement after
 // the other, behind how many they are. The text is read once, and nothing is written before it is known that it is accepted and that the
 // numbers have room.
+#![tactic(auto)]
+
 ghost use Rattle.std.specs.Prelude.{◌≡◌, ◌*◌, ◌≤◌, length};
 ghost use Rattle.tokens.specs.Class.{class_table};
 ghost use Rattle.labels.specs.Table.{label_table, keyword_table};

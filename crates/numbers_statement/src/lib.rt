@@ -1,5 +1,7 @@
 // A statement of a text as 32-bit numbers in the caller's buffer, for programs in other languages. `put` is the one place that writes, and it
 // writes only where the buffer has room: on a buffer with no room the same calls tell how many numbers there are.
+#![tactic(auto)]
+
 ghost use Rattle.std.specs.Prelude.{◌≡◌, [], ◌∷◌, length};
 ghost use Rattle.tokens.specs.Class.{class_table};
 ghost use Rattle.reading.specs.Answer.{accepted};
@@ -25,7 +27,7 @@ use read_text::StatementAt;
 use tokens::Classes;
 
 // What is written of an entry of a list: its pair, its kind and its pair, or its count.
-#[derive(Drop)]
+#[derive(Clone, Copy)]
 pub enum Entry {
     Pair,
     Value,
@@ -33,7 +35,7 @@ pub enum Entry {
 }
 
 // How many numbers a statement has, or why there are none.
-#[derive(Drop)]
+#[derive(Clone, Copy)]
 pub enum NumbersAt {
     Count(usize),
     Refused(Refusal),

@@ -1,5 +1,7 @@
 // What `mfl` writes of a text, put into its page from the start on. What the page has no room for is counted and not written, so that the
 // program can tell it.
+#![tactic(auto)]
+
 ghost use Rattle.std.specs.Prelude.{◌≡◌, ◌≤◌, length};
 ghost use Rattle.tokens.specs.Class.{class_table};
 ghost use Rattle.labels.specs.Table.{label_table, keyword_table};
@@ -16,14 +18,14 @@ use read_profile::Profiled;
 use tokens::Classes;
 
 // How many bytes there are to write, and what Print answered.
-#[derive(Drop)]
+#[derive(Clone, Copy)]
 pub struct PrintedLine {
     pub count: usize,
     pub answer: Printed,
 }
 
 // How many bytes there are to write, and what the profile says.
-#[derive(Drop)]
+#[derive(Clone, Copy)]
 pub struct ProfiledLine {
     pub count: usize,
     pub answer: Profiled,

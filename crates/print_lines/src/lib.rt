@@ -1,4 +1,6 @@
 // The lines that programs write, put into a page: a refusal's, those of effects and those of notes.
+#![tactic(auto)]
+
 ghost use Rattle.std.specs.Prelude.{◌≡◌, true, [], ◌∷◌, ◌++◌, map, ℕ, ◌≤◌, length, take, get_or};
 ghost use Rattle.tokens.specs.Class.{class_table};
 ghost use Rattle.counts.specs.Decimal.{digits_of};
@@ -139,7 +141,7 @@ pub fn put_effects(
 }
 
 // Where a statement starts and where it ends.
-#[derive(Drop)]
+#[derive(Clone, Copy)]
 pub struct Stretch {
     pub start: usize,
     pub end: usize,
@@ -398,7 +400,7 @@ pub fn put_ground(ground: &[u8], count: usize, page: &mut [u8]) -> usize
 }
 
 // What is asked for of a text that resolves.
-#[derive(Drop)]
+#[derive(Clone, Copy)]
 pub enum Asked {
     Ground,
     Effects,
@@ -406,7 +408,7 @@ pub enum Asked {
 }
 
 // How many bytes the ground text has, and how many effects and notes there are.
-#[derive(Drop)]
+#[derive(Clone, Copy)]
 pub struct Sizes {
     pub ground: usize,
     pub effects: usize,

@@ -1,4 +1,6 @@
 // The parts of a statement, printed: their canonical bytes written into the caller's buffer, and the index behind them.
+#![tactic(auto)]
+
 ghost use Rattle.std.specs.Prelude.{◌≡◌, map, suc, length};
 ghost use Rattle.read_packs.specs.Packs.{places};
 ghost use Rattle.tokens.specs.Class.{class_table};
@@ -19,7 +21,7 @@ use read_forms::{Counts, Items, Modes, Name, Operand};
 use tokens::Classes;
 
 // What an entry of a list is printed as: the name as it is written, or its count.
-#[derive(Drop)]
+#[derive(Clone, Copy)]
 pub enum Entry {
     Name,
     Count,

@@ -1,4 +1,6 @@
 // Print: a text's canonical text, in the caller's buffer.
+#![tactic(auto)]
+
 ghost use Rattle.std.specs.Prelude.{◌≡◌, ◌≤◌, length};
 ghost use Rattle.tokens.specs.Class.{class_table};
 ghost use Rattle.labels.specs.Table.{label_table, keyword_table};
@@ -19,7 +21,7 @@ use read_text::CountRead;
 use tokens::{Classes, Cursor};
 
 // How many bytes the canonical text has, or why there is none.
-#[derive(Drop)]
+#[derive(Clone, Copy)]
 pub enum Printed {
     Length(usize),
     Refused(Refusal),
@@ -94,7 +96,7 @@ fn print_accepted(
 
 // What printing a text comes to whose statements are kept as they are read: its canonical text's length, a refusal, or more statements than
 // there is room to keep.
-#[derive(Drop)]
+#[derive(Clone, Copy)]
 pub enum Kept {
     Length(usize),
     Refused(Refusal),

@@ -1,4 +1,6 @@
 // Statements printed by their parts: one function for each kind of argument, and none for a feature.
+#![tactic(auto)]
+
 ghost use Rattle.std.specs.Prelude.{◌≡◌, true, List, [], ℕ, ◌<◌, length, get_or};
 ghost use Rattle.tokens.specs.Class.{class_table};
 ghost use Rattle.tokens.specs.Spelling.{spell_all};

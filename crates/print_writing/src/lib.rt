@@ -1,5 +1,7 @@
 // Bytes written into the caller's buffer. Two places write, and only where the buffer has room: `put` tests it for its byte, and `copy_all` is
 // called where it was tested for all bytes. On a buffer with no room the same calls tell how long an answer is.
+#![tactic(auto)]
+
 ghost use Rattle.std.specs.Prelude.{◌+◌, ◌≤◌, ◌≡◌, [], ◌∷◌, length};
 ghost use Rattle.counts.specs.Decimal.{digits_of};
 ghost use Rattle.print_writing.specs.Written.{patch, Room, Written};

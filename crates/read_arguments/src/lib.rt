@@ -1,4 +1,6 @@
 // The arguments of a statement, read to its `)`. Each function's answer says how the reading of the statement goes on.
+#![tactic(auto)]
+
 ghost use Rattle.std.specs.Prelude.{◌≡◌, List, ◌++◌, ℕ, ◌≤◌, length};
 ghost use Rattle.tokens.specs.Class.{class_table};
 ghost use Rattle.reading.specs.Statement.{Item, a_number};
@@ -15,7 +17,7 @@ use read_forms::{Arg, Items, Name, Refusal};
 use tokens::{Classes, Cursor, Token};
 
 // An argument with the cursor after it; a `)` where one would start; or a refusal.
-#[derive(Drop)]
+#[derive(Clone, Copy)]
 pub enum ArgRead {
     Arg(Arg, Cursor),
     Close { at: usize, next: Cursor },
@@ -23,7 +25,7 @@ pub enum ArgRead {
 }
 
 // What stands behind an entry of an array: a `,`, or the array's `]`.
-#[derive(Drop)]
+#[derive(Clone, Copy)]
 pub enum Entry {
     More(Cursor),
     Done(Cursor),
@@ -31,7 +33,7 @@ pub enum Entry {
 }
 
 // What stands behind an argument: a `,`, with its offset, or the `)`.
-#[derive(Drop)]
+#[derive(Clone, Copy)]
 pub enum After {
     Comma { at: usize, next: Cursor },
     Close(Cursor),

@@ -1,5 +1,7 @@
 // What an argument is taken for: modes of a family, counts, a parameter or covariate operand, names. The argument comes from the text, and
 // its lists are read again from there.
+#![tactic(auto)]
+
 ghost use Rattle.std.specs.Prelude.{◌≡◌, Bool, true, List, [], ◌∷◌, map, ℕ, ◌≤◌, length};
 ghost use Rattle.text.specs.Bytes.{bytes};
 ghost use Rattle.tokens.specs.Class.{class_table};
@@ -22,50 +24,50 @@ use read_forms::{Arg, Counts, CovariateOp, Items, Kind, Modes, Name, Operand, Re
 use tokens::{Classes, Cursor};
 
 // Whether all entries of a list are in order.
-#[derive(Drop)]
+#[derive(Clone, Copy)]
 pub enum Checked {
     Fine,
     Refused(Refusal),
 }
 
-#[derive(Drop)]
+#[derive(Clone, Copy)]
 pub enum ModesRead {
     Modes(Modes),
     Refused(Refusal),
 }
 
-#[derive(Drop)]
+#[derive(Clone, Copy)]
 pub enum CountsRead {
     Counts(Counts),
     Refused(Refusal),
 }
 
-#[derive(Drop)]
+#[derive(Clone, Copy)]
 pub enum OperandRead {
     Operand(Operand),
     Refused(Refusal),
 }
 
-#[derive(Drop)]
+#[derive(Clone, Copy)]
 pub enum ItemsRead {
     Items(Items),
     Refused(Refusal),
 }
 
-#[derive(Drop)]
+#[derive(Clone, Copy)]
 pub enum NameRead {
     Name(Name),
     Refused(Refusal),
 }
 
-#[derive(Drop)]
+#[derive(Clone, Copy)]
 pub enum OpRead {
     Op(CovariateOp),
     Refused(Refusal),
 }
 
 // An entry of a list: what it is, its name, and the cursor behind it.
-#[derive(Drop)]
+#[derive(Clone, Copy)]
 pub struct Entry {
     pub kind: Kind,
     pub name: Name,

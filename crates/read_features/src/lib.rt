@@ -1,5 +1,7 @@
 // A feature by its keyword and its arguments: the keyword first, then the number of arguments, each argument from left to right, and last
 // the `?`.
+#![tactic(auto)]
+
 ghost use Rattle.std.specs.Prelude.{◌≡◌, List, ℕ, ◌≤◌, ◌<◌};
 ghost use Rattle.tokens.specs.Class.{class_table};
 ghost use Rattle.labels.specs.declared.Family.TheVariants.{CovariateEffect};
@@ -23,39 +25,39 @@ use read_forms::{
 };
 use tokens::Classes;
 
-#[derive(Drop)]
+#[derive(Clone, Copy)]
 pub enum Built {
     Feature(Feature),
     Refused(Refusal),
 }
 
-#[derive(Drop)]
+#[derive(Clone, Copy)]
 enum SomeModesRead {
     Modes(SomeModes),
     Refused(Refusal),
 }
 
-#[derive(Drop)]
+#[derive(Clone, Copy)]
 enum SomeNameRead {
     Name(SomeName),
     Refused(Refusal),
 }
 
-#[derive(Drop)]
+#[derive(Clone, Copy)]
 enum TransitsRead {
     Counts(TransitCounts),
     Refused(Refusal),
 }
 
 // The arguments of IIV and IOV.
-#[derive(Drop)]
+#[derive(Clone, Copy)]
 enum EtaRead {
     Eta(Operand, Modes),
     Refused(Refusal),
 }
 
 // The features of one argument, which is modes, and no `?`.
-#[derive(Drop)]
+#[derive(Clone, Copy)]
 enum Alone {
     Absorption,
     Elimination,

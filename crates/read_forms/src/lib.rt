@@ -1,5 +1,7 @@
 // What is read of a text: arguments, and statements made of them. A list stays in the text: a form says where it starts and how many
 // entries it has.
+#![tactic(auto)]
+
 
 ghost use Rattle.std.specs.Prelude.{◌≡◌};
 ghost use Rattle.counts.specs.Count.{count_of};
@@ -11,35 +13,35 @@ use counts::Counted;
 use tokens::Cursor;
 
 // A name or a symbol: the offset of its first byte, and how many it has.
-#[derive(Drop)]
+#[derive(Clone, Copy)]
 pub struct Name {
     pub offset: usize,
     pub length: usize,
 }
 
 // What an entry of a list is.
-#[derive(Drop)]
+#[derive(Clone, Copy)]
 pub enum Kind {
     Word,
     Number,
 }
 
 // An entry of an array, and a value of a LET.
-#[derive(Drop)]
+#[derive(Clone, Copy)]
 pub struct Item {
     pub kind: Kind,
     pub name: Name,
 }
 
 // The entries of an array, or one word or number alone: the cursor from which the first is read, and how many there are.
-#[derive(Drop)]
+#[derive(Clone, Copy)]
 pub struct Items {
     pub first: Cursor,
     pub count: usize,
 }
 
 // An argument before its feature says what it means, with the offset of its first byte.
-#[derive(Drop)]
+#[derive(Clone, Copy)]
 pub enum Arg {
     Star(usize),
     Plus(usize),
@@ -51,7 +53,7 @@ pub enum Arg {
 }
 
 // How many arguments there are, and the first four: no feature takes more.
-#[derive(Drop)]
+#[derive(Clone, Copy)]
 pub struct Args {
     pub count: usize,
     pub first: Arg,
@@ -90,60 +92,60 @@ pub const NO_STATEMENT: u8 = 20;
 pub const CEILING_TOO_HIGH: u8 = 21;
 
 // Why a text is refused: the fault's number and its place.
-#[derive(Drop)]
+#[derive(Clone, Copy)]
 pub struct Refusal {
     pub number: u8,
     pub place: usize,
 }
 
 // All modes of a family, or some, packed into a number (`packs`).
-#[derive(Drop)]
+#[derive(Clone, Copy)]
 pub enum Modes {
     Wildcard,
     List(u32),
 }
 
-#[derive(Drop)]
+#[derive(Clone, Copy)]
 pub enum Counts {
     Single(u32),
     Range(u32, u32),
     List(Items),
 }
 
-#[derive(Drop)]
+#[derive(Clone, Copy)]
 pub enum TransitCounts {
     N,
     Counts(Counts),
 }
 
-#[derive(Drop)]
+#[derive(Clone, Copy)]
 pub enum Operand {
     Wildcard,
     Symbol(Name),
     Names(Items),
 }
 
-#[derive(Drop)]
+#[derive(Clone, Copy)]
 pub enum CovariateOp {
     Multiply,
     Add,
 }
 
 // A second argument of modes, which may be left out.
-#[derive(Drop)]
+#[derive(Clone, Copy)]
 pub enum SomeModes {
     Absent,
     Given(Modes),
 }
 
 // A reference value, which may be left out.
-#[derive(Drop)]
+#[derive(Clone, Copy)]
 pub enum SomeName {
     Absent,
     Given(Name),
 }
 
-#[derive(Drop)]
+#[derive(Clone, Copy)]
 pub enum Feature {
     Absorption(Modes),
     Elimination(Modes),
@@ -191,7 +193,7 @@ pub enum Feature {
     },
 }
 
-#[derive(Drop)]
+#[derive(Clone, Copy)]
 pub enum Statement {
     Let { name: Name, values: Items },
     Feature(Feature),
@@ -216,7 +218,7 @@ pub fn count_at(text: &[u8], name: Name, limit: u32) -> Counted
 }
 
 // Whether a text is read at all, or why it is not.
-#[derive(Drop)]
+#[derive(Clone, Copy)]
 pub enum Admission {
     Fine,
     Refused(Refusal),

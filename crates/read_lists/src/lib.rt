@@ -1,4 +1,6 @@
 // The lists of a statement in arrays of their own.
+#![tactic(auto)]
+
 ghost use Rattle.std.specs.Prelude.{◌≡◌, true, ◌+◌, ◌≤◌, ◌<◌, length, take};
 ghost use Rattle.tokens.specs.Class.{class_table};
 ghost use Rattle.counts.specs.Count.{count_of};

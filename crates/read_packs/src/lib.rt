@@ -1,4 +1,6 @@
 // A list of modes in one number: 8 groups of 4 bits, the first mode in the lowest, each its place in the family and 1. 0 ends the list.
+#![tactic(auto)]
+
 ghost use Rattle.std.specs.Prelude.{◌≡◌, ◌≤◌, ◌<◌, eqb, length};
 ghost use Rattle.read_packs.specs.Packs.{places, Snug, Joined};
 

@@ -1,5 +1,7 @@
 // A statement taken apart, whatever the feature: its keyword, its `?` and its arguments. The one place of the code that goes by features once
 // they are read.
+#![tactic(auto)]
+
 ghost use Rattle.std.specs.Prelude.{◌≡◌};
 ghost use Rattle.read_parts.specs.Apart.{some_modes_part, some_name_part, transits_part, one as one·spec, two as two·spec, feature_apart, apart};
 
@@ -10,7 +12,7 @@ use read_forms::{
 };
 
 // An argument of a statement: none where a feature has no more, or one that may be left out, and is.
-#[derive(Drop)]
+#[derive(Clone, Copy)]
 pub enum Part {
     Absent,
     Modes(Family, Modes),
@@ -24,7 +26,7 @@ pub enum Part {
 }
 
 // A statement by its keyword's place, its `?` and its arguments: the first is there.
-#[derive(Drop)]
+#[derive(Clone, Copy)]
 pub struct Parts {
     pub keyword: usize,
     pub optional: bool,

@@ -1,4 +1,6 @@
 // The PK-only house profile, asked of a text.
+#![tactic(auto)]
+
 ghost use Rattle.std.specs.Prelude.{◌≡◌};
 ghost use Rattle.tokens.specs.Class.{class_table};
 ghost use Rattle.labels.specs.Table.{label_table, keyword_table};
@@ -32,7 +34,7 @@ pub const COUNT_ABOVE_TEN: u8 = 24;
 const HIGHEST: u32 = 10;
 
 // That a text fits the profile, or why it does not.
-#[derive(Drop)]
+#[derive(Clone, Copy)]
 pub enum Profiled {
     Fits,
     Refused(Refusal),
@@ -53,7 +55,7 @@ impl Profiled {
 
 // What a statement is to the profile: of a feature outside it; of one of the five that may stand once, which one, and whether it has a count
 // above 10; or any other.
-#[derive(Drop)]
+#[derive(Clone, Copy)]
 enum Mark {
     Outside,
     Plain,

@@ -1,4 +1,6 @@
 // A text's statements, all of them kept as they are read: resolving goes over them more than once.
+#![tactic(auto)]
+
 ghost use Rattle.std.specs.Prelude.{◌≡◌, length, ◌≤◌};
 ghost use Rattle.tokens.specs.Class.{class_table};
 ghost use Rattle.labels.specs.Table.{label_table, keyword_table};
@@ -12,20 +14,20 @@ use read_statements::NextRead;
 use tokens::{Classes, Cursor};
 
 // How reading ended.
-#[derive(Drop)]
+#[derive(Clone, Copy)]
 pub enum Ending {
     Accepted,
     Refused(Refusal),
 }
 
 // A statement that is kept. (An array stands in a struct where its elements are structs, not where they are enums.)
-#[derive(Drop)]
+#[derive(Clone, Copy)]
 pub struct Form {
     pub statement: Statement,
 }
 
 // The statements of a text, or why it is refused: an enum cannot hold an array, so the statements stand beside.
-#[derive(Drop)]
+#[derive(Clone, Copy)]
 pub struct Space {
     pub ending: Ending,
     pub count: usize,

@@ -1,4 +1,6 @@
 // The next statement of a text.
+#![tactic(auto)]
+
 ghost use Rattle.std.specs.Prelude.{◌≡◌, ℕ, suc, ◌≤◌, ◌<◌, length};
 ghost use Rattle.text.specs.Bytes.{bytes};
 ghost use Rattle.tokens.specs.Token.{word};
@@ -25,14 +27,14 @@ use read_syntax::{CallRead, Head};
 use tokens::{Classes, Cursor, Scanned, Token};
 
 // Whether a statement may end where it does, and if so the cursor from which reading goes on.
-#[derive(Drop)]
+#[derive(Clone, Copy)]
 pub enum Ended {
     Fine(Cursor),
     Refused(Refusal),
 }
 
 // The next statement with the cursor behind it, the text's end, or a refusal.
-#[derive(Drop)]
+#[derive(Clone, Copy)]
 pub enum NextRead {
     Statement(Statement, Cursor),
     End,

@@ -10,17 +10,17 @@ use Rattle.reading.specs.Argument as argument
 use Rattle.reading.specs.Syntax.{more, feature_made, closed, comma, empty, wrong}
 use Rattle.reading.specs.Syntax as syntax
 use Rattle.read_forms.specs.declared.Arg.{Arg}
-use Rattle.read◌forms.specs.declared.Args.{Args}
-use Rattle.read◌forms.specs.Forms.{arg_in}
-use Rattle.read◌arguments.specs.Answers.{step_in}
-use Rattle.read◌syntax.specs.declared.Head.{Head}
-use Rattle.read◌syntax.specs.declared.Head.TheVariants as head
-use Rattle.read◌syntax.specs.declared.Opened.{Opened}
-use Rattle.read◌syntax.specs.declared.Opened.TheVariants as opened
-use Rattle.read◌syntax.specs.declared.CallRead.{CallRead}
-use Rattle.read◌syntax.specs.declared.CallRead.TheVariants as callRead
-use Rattle.read◌syntax.specs.Answers.{call_of, call_made, takes_one, misplaced, OpenedFurther, call_then, CallFurther}
-use Rattle.read◌syntax.proofs.Held.{Holds, held_build}
+use Rattle.read_forms.specs.declared.Args.{Args}
+use Rattle.read_forms.specs.Forms.{arg_in}
+use Rattle.read_arguments.specs.Answers.{step_in}
+use Rattle.read_syntax.specs.declared.Head.{Head}
+use Rattle.read_syntax.specs.declared.Head.TheVariants as head
+use Rattle.read_syntax.specs.declared.Opened.{Opened}
+use Rattle.read_syntax.specs.declared.Opened.TheVariants as opened
+use Rattle.read_syntax.specs.declared.CallRead.{CallRead}
+use Rattle.read_syntax.specs.declared.CallRead.TheVariants as callRead
+use Rattle.read_syntax.specs.Answers.{call_of, call_made, takes_one, misplaced, OpenedFurther, call_then, CallFurther}
+use Rattle.read_syntax.proofs.Held.{Holds, held_build}
 
 pub call_further : (s : List ℕ) (o p : ℕ) (r : CallRead) → o ≤ p → CallFurther s p r → CallFurther s o r
 unfolding CallFurther

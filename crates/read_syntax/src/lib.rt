@@ -1,4 +1,6 @@
 // A statement behind its keyword, read to its `)`: a feature's arguments, or a LET's name and argument.
+#![tactic(auto)]
+
 ghost use Rattle.std.specs.Prelude.{◌≡◌, cond, [], ℕ};
 ghost use Rattle.tokens.specs.Class.{class_table};
 ghost use Rattle.reading.specs.Statement.{Name as Name·spec};
@@ -12,21 +14,21 @@ use read_forms::{Arg, Args, Name, Refusal};
 use tokens::{Classes, Cursor};
 
 // What arguments belong to: a feature, with whether a `?` stands behind its keyword, or a LET with its name.
-#[derive(Drop)]
+#[derive(Clone, Copy)]
 pub enum Head {
     Feature(bool),
     Let(Name),
 }
 
 // What stands between a statement's keyword and its arguments: `(`, or `?` and `(`, of a feature; `(`, a name and `,` of a LET.
-#[derive(Drop)]
+#[derive(Clone, Copy)]
 enum Opened {
     Call { head: Head, next: Cursor },
     Refused(Refusal),
 }
 
 // The rest of a statement behind its keyword.
-#[derive(Drop)]
+#[derive(Clone, Copy)]
 pub enum CallRead {
     Call {
         head: Head,

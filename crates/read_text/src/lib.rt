@@ -1,4 +1,6 @@
 // The statements of a whole text: how many there are, which is Count, and the one at an index.
+#![tactic(auto)]
+
 ghost use Rattle.std.specs.Prelude.{◌≡◌};
 ghost use Rattle.tokens.specs.Class.{class_table};
 ghost use Rattle.labels.specs.Table.{label_table, keyword_table};
@@ -14,14 +16,14 @@ use read_statements::NextRead;
 use tokens::{Classes, Cursor};
 
 // A statement of a text, or why there is none.
-#[derive(Drop)]
+#[derive(Clone, Copy)]
 pub enum StatementAt {
     Statement(Statement),
     Refused(Refusal),
 }
 
 // The statement at an index among those that were read to the text's end, that there are not so many, or a refusal.
-#[derive(Drop)]
+#[derive(Clone, Copy)]
 enum NthRead {
     Statement(Statement),
     Missing,
@@ -29,7 +31,7 @@ enum NthRead {
 }
 
 // How many statements a text has, or why it is refused.
-#[derive(Drop)]
+#[derive(Clone, Copy)]
 pub enum CountRead {
     Count(usize),
     Refused(Refusal),

@@ -1,4 +1,6 @@
 // A statement of a text by value.
+#![tactic(auto)]
+
 ghost use Rattle.std.specs.Prelude.{◌≡◌};
 ghost use Rattle.tokens.specs.Class.{class_table};
 ghost use Rattle.read_forms.specs.Fits.{Listed};
@@ -13,7 +15,7 @@ use tokens::{Classes, Cursor};
 
 // A statement, or why there is none, and its lists beside it: the names of its first argument, the names or a LET's values of its second, and
 // the counts of its first. An array's entries past its list are left free.
-#[derive(Drop)]
+#[derive(Clone, Copy)]
 pub struct Value {
     pub found: StatementAt,
     pub first: [Item; 64],
@@ -22,7 +24,7 @@ pub struct Value {
 }
 
 // Where the lists of a statement stand in the text; a list that it does not have is empty.
-#[derive(Drop)]
+#[derive(Clone, Copy)]
 pub struct Lists {
     pub first: Items,
     pub second: Items,

@@ -1,1 +1,3 @@
 // Reading: the definition of what a text's statements are stands in specs/.
+#![tactic(auto)]
+

@@ -5,7 +5,7 @@ use replay_lines::output;
 use replay_requests::requests;
 
 // How many bytes of the line are there, and how many bytes of output are waiting. A line that does not fit is one longer than its buffer.
-#[derive(Drop)]
+#[derive(Clone, Copy)]
 struct Held {
     used: usize,
     len: usize,

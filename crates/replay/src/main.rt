@@ -3,6 +3,8 @@
 // for what the programs write `line HEX`, `line-profile HEX`, and `line-ground`, `line-effects` and `line-notes` with `HEX MARKS BLOCK LISTS`. Each may stand behind `under N`, the ceiling for
 // counts, which is 64 otherwise. A line that is no request is answered too, and stops nothing. A line has room for the longest text with the
 // largest context.
+#![tactic(auto)]
+
 mod input;
 
 fn main() {

@@ -4,14 +4,14 @@ use crate::words::{Decoded, Numbered};
 use crate::{output, words};
 
 // The offset behind what was read, and how many numbers there are now; or that it is not as it should be.
-#[derive(Drop)]
+#[derive(Clone, Copy)]
 pub enum Went {
     On { at: usize, count: usize },
     Malformed,
 }
 
 // How many name bytes and how many numbers a context has, and the offset behind its last word; or that there is none.
-#[derive(Drop)]
+#[derive(Clone, Copy)]
 pub enum Handed {
     Context {
         bytes: usize,

@@ -23,7 +23,7 @@ fn put_mark(out: &mut [u8], len: usize, mark: u8) -> usize {
 }
 
 // Where the text goes on after a token, and how many bytes of output are waiting.
-#[derive(Drop)]
+#[derive(Clone, Copy)]
 struct Written {
     at: usize,
     len: usize,

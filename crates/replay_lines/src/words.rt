@@ -1,13 +1,13 @@
 // The words of a request line.
 // A number and the offset behind it, or that there is none.
-#[derive(Drop)]
+#[derive(Clone, Copy)]
 pub enum Numbered {
     Number { value: usize, end: usize },
     Malformed,
 }
 
 // A text from its hex digits, or that there is none.
-#[derive(Drop)]
+#[derive(Clone, Copy)]
 pub enum Decoded {
     Bytes(usize),
     Malformed,

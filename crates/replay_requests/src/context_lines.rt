@@ -8,14 +8,14 @@ use replay_lines::{contexts, effects, output, within, words};
 use resolve_settling::Resolved;
 
 // What is asked of a text in a context: Resolve's answer in words, or what `ground` writes.
-#[derive(Drop)]
+#[derive(Clone, Copy)]
 pub enum Wanted {
     Words,
     Lines(Asked),
 }
 
 // How many bytes of ground text, effects, notes and numbers to work with are lent.
-#[derive(Drop)]
+#[derive(Clone, Copy)]
 struct Lent {
     ground: usize,
     effects: usize,
@@ -24,7 +24,7 @@ struct Lent {
 }
 
 // What a line's end says of that, or that the line is no request.
-#[derive(Drop)]
+#[derive(Clone, Copy)]
 enum Lending {
     Lent(Lent),
     Malformed,

@@ -6,7 +6,7 @@ use read_text::{CountRead, StatementAt};
 use replay_lines::{lexed, output};
 
 // What is asked about a text; `PrintIn` has the bytes of the output. `Line` and `ProfileLine` are what `mfl` and `mfl --profile` write.
-#[derive(Drop)]
+#[derive(Clone, Copy)]
 pub enum Asked {
     Tokens,
     Count,

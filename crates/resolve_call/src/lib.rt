@@ -1,4 +1,6 @@
 // Resolve: a text and a context give the ground text, the covariate effects and the notes.
+#![tactic(auto)]
+
 ghost use Rattle.std.specs.Prelude.{◌≡◌, ◌≤◌, length};
 ghost use Rattle.tokens.specs.Class.{class_table};
 ghost use Rattle.labels.specs.Table.{label_table, keyword_table};

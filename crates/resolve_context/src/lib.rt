@@ -1,4 +1,6 @@
 // A context as it is handed over: a block of name bytes and one run of numbers. It is checked once; then its lists are read in place.
+#![tactic(auto)]
+
 ghost use Rattle.std.specs.Prelude.{◌≡◌, ◌+◌, ◌*◌, ◌≤◌, ◌<◌, [], length, get_or, true, eqb};
 ghost use Rattle.std.proofs.Math.Option.{some};
 ghost use Rattle.tokens.specs.Class.{class_table};
@@ -20,7 +22,7 @@ use read_forms::Name;
 use tokens::{Classes, Cursor};
 
 // A list of names in the run: the index of the first entry's offset, how many entries there are, and how many numbers each has.
-#[derive(Drop)]
+#[derive(Clone, Copy)]
 pub struct Names {
     pub start: usize,
     pub count: usize,
@@ -28,7 +30,7 @@ pub struct Names {
 }
 
 // Where the lists stand. The roles of a template stand at its start, and its variables two numbers later.
-#[derive(Drop)]
+#[derive(Clone, Copy)]
 pub struct Layout {
     pub parameters: Names,
     pub iiv: Names,
@@ -39,28 +41,28 @@ pub struct Layout {
     pub declares: bool,
 }
 
-#[derive(Drop)]
+#[derive(Clone, Copy)]
 pub enum Checked {
     Context(Layout),
     Wrong,
 }
 
 // The place of a name in a list, or none.
-#[derive(Drop)]
+#[derive(Clone, Copy)]
 pub enum Found {
     Place(usize),
     Nothing,
 }
 
 // The kind of a covariate. A `match` on it has an arm for each kind and no default, so that one kind more shows every place that goes by kinds.
-#[derive(Drop)]
+#[derive(Clone, Copy)]
 pub enum Kind {
     Continuous,
     Categorical,
 }
 
 // How two names are compared: byte for byte, or as words, ignoring case.
-#[derive(Drop)]
+#[derive(Clone, Copy)]
 enum Comparing {
     Bytes,
     Words,

@@ -1,4 +1,6 @@
 // What statements bring: a ground statement, effects, or nothing but the note that it is dropped; or a fault.
+#![tactic(auto)]
+
 ghost use Rattle.std.specs.Prelude.{◌≡◌, true, false, List, ◌++◌, ℕ, ◌+◌, ◌*◌, ◌≤◌, ◌<◌, length};
 ghost use Rattle.tokens.specs.Class.{class_table};
 ghost use Rattle.tokens.specs.Spelling.{spell_all};
@@ -36,7 +38,7 @@ use tokens::Classes;
 pub const WRONG_KIND: u8 = 16;
 
 // What a feature comes to: its ground statement or its terms were written, and this is the index behind them; it is dropped; or a fault.
-#[derive(Drop)]
+#[derive(Clone, Copy)]
 pub enum Stay {
     Next(usize),
     Dropped,
@@ -44,7 +46,7 @@ pub enum Stay {
 }
 
 // A feature whose one argument is modes, by its keyword's place, their family and the modes; or another.
-#[derive(Drop)]
+#[derive(Clone, Copy)]
 enum Alone {
     Modes(usize, Family, Modes),
     Other,

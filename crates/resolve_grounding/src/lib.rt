@@ -1,5 +1,7 @@
 // Ground statements: what stays of a statement with its modes `*` made whole, with names of the context in place of an operand, and the
 // COVARIATEs that stand for groups of effects.
+#![tactic(auto)]
+
 ghost use Rattle.std.specs.Prelude.{◌≡◌, true, List, [], ◌∷◌, ◌++◌, map, ℕ, ◌+◌, ◌*◌, ◌≤◌, ◌<◌, length, get_or};
 ghost use Rattle.text.specs.Bytes.{count_up};
 ghost use Rattle.tokens.specs.Spelling.{spell_all};

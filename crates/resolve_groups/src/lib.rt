@@ -1,4 +1,6 @@
 // The ground COVARIATEs that stand for groups of effects.
+#![tactic(auto)]
+
 ghost use Rattle.std.specs.Prelude.{◌≡◌, map, ◌≤◌, take};
 ghost use Rattle.labels.specs.Table.{label_table, keyword_table};
 ghost use Rattle.print_writing.specs.Written.{Written};

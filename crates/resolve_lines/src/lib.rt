@@ -1,5 +1,7 @@
 // What `ground` writes of a text in a context, put into its page from the start on. What the page has no room for is counted and not written,
 // so that the program can tell it.
+#![tactic(auto)]
+
 ghost use Rattle.std.specs.Prelude.{◌≡◌, length};
 ghost use Rattle.resolving.specs.Handed.{handed_context};
 ghost use Rattle.resolving.specs.Call.{resolving_call, Leaves, effect_numbers};
@@ -12,7 +14,7 @@ use print_lines::{Asked, Sizes};
 use resolve_settling::Resolved;
 
 // How many bytes there are to write, and what Resolve answered.
-#[derive(Drop)]
+#[derive(Clone, Copy)]
 pub struct ResolvedLines {
     pub count: usize,
     pub answer: Resolved,

@@ -1,6 +1,8 @@
 // Merging and grouping on a lent buffer of packed terms. A table has a number for each pair, which tells what a term has to know of the
 // others, so each pass goes over the terms once. The table is never cleared as a whole: the terms set the numbers of their own pairs to 0,
 // and only those are read.
+#![tactic(auto)]
+
 ghost use Rattle.std.specs.Prelude.{◌≡◌, true, map, ◌≤◌, ◌<◌, eqb, length, take, get_or, set};
 ghost use Rattle.read_packs.specs.Packs.{places, Snug};
 ghost use Rattle.text.specs.Lists.{any};
@@ -27,7 +29,7 @@ pub const MOST_GROUPS: usize = 256;
 pub const END: usize = 6656;
 
 // What a term makes of its pair's number: 0; 1, if it is explicit; one flag more, for its form and operator, if it is mandatory.
-#[derive(Drop)]
+#[derive(Clone, Copy)]
 enum Step {
     Clear,
     Explicit,
@@ -35,28 +37,28 @@ enum Step {
 }
 
 // Which terms a pass leaves out: those that an explicit one overrides; optional ones that are mandatory too; repeats.
-#[derive(Drop)]
+#[derive(Clone, Copy)]
 enum Pass {
     Overridden,
     AlsoMandatory,
     Repeated,
 }
 
-#[derive(Drop)]
+#[derive(Clone, Copy)]
 enum Found {
     Forced(u32),
     Nothing,
 }
 
 // The statement that forces a pair again, or how many merged effects there are.
-#[derive(Drop)]
+#[derive(Clone, Copy)]
 pub enum Outcome {
     Refused(u32),
     Effects(usize),
 }
 
 // How many groups there are, or that they are more than there is room for.
-#[derive(Drop)]
+#[derive(Clone, Copy)]
 pub enum Grouped {
     Groups(usize),
     Many,

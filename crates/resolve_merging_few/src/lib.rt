@@ -1,4 +1,6 @@
 // Merging and grouping of few terms by scans, so that no table is needed. The answers are those of `resolve_merging`.
+#![tactic(auto)]
+
 ghost use Rattle.std.specs.Prelude.{◌≡◌, ◌||◌, [], ◌*◌, ◌≤◌, ◌<◌, length, take, get_or};
 ghost use Rattle.std.proofs.Math.Seq.{slice};
 ghost use Rattle.read_packs.specs.Packs.{Joined};
@@ -14,7 +16,7 @@ ghost use Rattle.resolve_merging_few.specs.Merging.{AllUnited, outcome_of, Liste
 
 // What a scan looks for: an explicit term; a mandatory one; one that is explicit and of a pair, with the pair's number and 4,096; one with
 // an effect; one that forces a term's pair and is of an earlier statement.
-#[derive(Drop)]
+#[derive(Clone, Copy)]
 enum Sought {
     Explicit,
     Mandatory,
@@ -24,27 +26,27 @@ enum Sought {
 }
 
 // Which terms a pass leaves out: those that an explicit one overrides; optional ones that are mandatory too.
-#[derive(Drop)]
+#[derive(Clone, Copy)]
 enum Pass {
     Overridden,
     AlsoMandatory,
 }
 
-#[derive(Drop)]
+#[derive(Clone, Copy)]
 enum Found {
     Forced(u32),
     Nothing,
 }
 
 // How many merged effects there are, and how many groups of them.
-#[derive(Drop)]
+#[derive(Clone, Copy)]
 pub struct United {
     pub effects: usize,
     pub groups: usize,
 }
 
 // What merging answers: the statement that forces a pair again, or how many effects and groups there are.
-#[derive(Drop)]
+#[derive(Clone, Copy)]
 pub enum Merged {
     Refused(u32),
     United(United),

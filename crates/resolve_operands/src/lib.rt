@@ -1,5 +1,7 @@
 // An operand as indexes of the context's entries. "Each resolved list keeps first occurrences. Each name in one, written or brought by a symbol
 // or `*`, is held by 15 to the list that written names are held to there." The indexes stand in an array that the caller lends.
+#![tactic(auto)]
+
 ghost use Rattle.std.specs.Prelude.{◌≡◌, true, cond, [], ◌∷◌, ◌+◌, ◌≤◌, ◌<◌, length, take};
 ghost use Rattle.tokens.specs.Class.{class_table};
 ghost use Rattle.reading.specs.Answer.{accepted};
@@ -25,14 +27,14 @@ pub const UNKNOWN_SYMBOL: u8 = 14;
 pub const UNKNOWN_NAME: u8 = 15;
 
 // What an entry of a source brings, and the cursor behind it where it stands in the text.
-#[derive(Drop)]
+#[derive(Clone, Copy)]
 struct NextName {
     named: Named,
     next: Cursor,
 }
 
 // Where a name stands in a list.
-#[derive(Drop)]
+#[derive(Clone, Copy)]
 enum Placed {
     At(usize),
     Missing,
@@ -40,7 +42,7 @@ enum Placed {
 }
 
 // How many indexes an operand has in the array that was lent, or the fault for which there are none.
-#[derive(Drop)]
+#[derive(Clone, Copy)]
 pub enum Entries {
     Count(usize),
     Refused(u8),

@@ -1,5 +1,7 @@
 // What Resolve writes: a ground text that was made elsewhere, effects and notes; and into the working buffer packed effects that were made elsewhere,
 // and zeros.
+#![tactic(auto)]
+
 ghost use Rattle.std.specs.Prelude.{◌≡◌, cond, [], ◌∷◌, ◌++◌, map, ◌+◌, ◌≤◌, ◌<◌, length, take, drop, replicate, set};
 ghost use Rattle.resolving.specs.Call.{effect_numbers};
 ghost use Rattle.resolve_merging.specs.Packing.{effect_of};

@@ -1,5 +1,7 @@
 // Resolve with its effects as records: a lent slice of structs at the edge, over the call that leaves them packed. A function that has such a slice
 // is an instance of a law of `record_laws`; all work is in functions over numbers.
+#![tactic(auto)]
+
 ghost use Rattle.std.specs.Prelude.{◌≡◌, ◌++◌, map, ◌+◌, ◌*◌, ◌≤◌, ◌<◌, length, get_or, take, drop};
 ghost use Rattle.resolving.specs.Resolve.{ground_text};
 ghost use Rattle.resolving.specs.Call.{resolving_call, lengths_of, output_of, work_after, note_numbers};
@@ -12,7 +14,7 @@ use resolve_settling::{Lengths, Resolved};
 // An effect: its parameter and its covariate, each the index of its name's first entry in its list, its form by its place in the family, its
 // operator (0 `*`, 1 `+`), and whether it is optional (0 or 1).
 #[repr(C)]
-#[derive(Drop)]
+#[derive(Clone, Copy)]
 pub struct Effect {
     pub parameter: u8,
     pub covariate: u8,

@@ -1,4 +1,6 @@
 // What is merged, grounded and put out: the last part of Resolve, where all that the statements bring is there.
+#![tactic(auto)]
+
 ghost use Rattle.std.specs.Prelude.{◌≡◌, ◌+◌, ◌≤◌, length};
 ghost use Rattle.labels.specs.Table.{label_table, keyword_table};
 ghost use Rattle.reading.specs.Answer.{refused};
@@ -18,7 +20,7 @@ use resolve_merging_few::Merged;
 use resolve_statements::Tally;
 
 // How many bytes the ground text has, and how many effects and notes there are.
-#[derive(Drop)]
+#[derive(Clone, Copy)]
 pub struct Lengths {
     pub ground: usize,
     pub effects: usize,
@@ -26,7 +28,7 @@ pub struct Lengths {
 }
 
 // The three lengths, or why the text is refused.
-#[derive(Drop)]
+#[derive(Clone, Copy)]
 pub enum Resolved {
     Lengths(Lengths),
     Refused(Refusal),
@@ -55,7 +57,7 @@ fn note_count(dropped: usize, additive: bool) -> usize
 }
 
 // The answer of a text, or that it needs more room here than there is: the way with full sizes then answers.
-#[derive(Drop)]
+#[derive(Clone, Copy)]
 pub enum Attempt {
     Answer(Resolved),
     NoRoom,

@@ -1,4 +1,6 @@
 // What the statement at an index brings, added to what those before it brought.
+#![tactic(auto)]
+
 ghost use Rattle.std.specs.Prelude.{◌≡◌, false, List, ℕ, ◌≤◌, ◌<◌};
 ghost use Rattle.tokens.specs.Class.{class_table};
 ghost use Rattle.labels.specs.Table.{label_table, keyword_table};
@@ -23,7 +25,7 @@ use resolve_features::Stay;
 use tokens::Classes;
 
 // How much the statements so far bring: how many terms, how many statements stay and how many bytes they have, and how many are dropped.
-#[derive(Drop)]
+#[derive(Clone, Copy)]
 pub struct Tally {
     pub terms: usize,
     pub stays: usize,
@@ -32,7 +34,7 @@ pub struct Tally {
 }
 
 // What the next statement makes of it, or a fault.
-#[derive(Drop)]
+#[derive(Clone, Copy)]
 pub enum Step {
     Next(Tally),
     Refused(u8),

@@ -1,5 +1,7 @@
 // What a symbol stands for. "A symbol is looked up among the LETs, then among the built-ins of `builtin`, ignoring ASCII case." What is found
 // is a source of names; each of its names is a pair into the text or into the context's block before it becomes an index (`resolve_operands`).
+#![tactic(auto)]
+
 ghost use Rattle.std.specs.Prelude.{◌≡◌, cond, map, ◌+◌, ◌*◌, ◌≤◌, ◌<◌, min, length};
 ghost use Rattle.std.proofs.Math.Option.{some};
 ghost use Rattle.labels.specs.Word.{same_word};
@@ -19,7 +21,7 @@ use resolve_context::{Found, Kind, Layout, Names, name_at, pair_at, same_bytes};
 use tokens::Cursor;
 
 // The roles of a template that a built-in takes.
-#[derive(Drop)]
+#[derive(Clone, Copy)]
 pub enum Roles {
     Every,
     Absorption,
@@ -29,7 +31,7 @@ pub enum Roles {
 }
 
 // A list of the context, and which of its entries are taken.
-#[derive(Drop)]
+#[derive(Clone, Copy)]
 pub enum Listing {
     Iiv,
     Template(Roles),
@@ -40,20 +42,20 @@ pub enum Listing {
 }
 
 // What an operand or a symbol stands for: values that are written in the text, or names of the context that was given.
-#[derive(Drop)]
+#[derive(Clone, Copy)]
 pub enum Source {
     Values(Items),
     Given(Listing),
 }
 
-#[derive(Drop)]
+#[derive(Clone, Copy)]
 pub enum Looked {
     Names(Source),
     Unknown,
 }
 
 // A name before it is an index: a pair into the text or into the context's block, by its mark; or nothing, where an entry brings none.
-#[derive(Drop)]
+#[derive(Clone, Copy)]
 pub enum Named {
     Text(Name),
     Block(Name),

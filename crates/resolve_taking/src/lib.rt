@@ -1,5 +1,7 @@
 // What the statements of a text bring: read, looked through for LETs and taken in one function, since an array of statements cannot be lent, and to
 // hand it on by value costs more than all else on a short text. The first statements are kept as they are read; any further ones are read again.
+#![tactic(auto)]
+
 ghost use Rattle.std.specs.Prelude.{◌≡◌, ◌≤◌, ◌<◌, length};
 ghost use Rattle.tokens.specs.Class.{class_table};
 ghost use Rattle.labels.specs.Table.{label_table, keyword_table};
@@ -16,7 +18,7 @@ use resolve_statements::{Step, Tally};
 use tokens::{Classes, Cursor};
 
 // What all bring; or why the text or its context is refused; or that there are more LETs than there is room for.
-#[derive(Drop)]
+#[derive(Clone, Copy)]
 pub enum Taken {
     Tally(Tally),
     Refused(Refusal),
@@ -24,7 +26,7 @@ pub enum Taken {
 }
 
 // A statement, and the cursor from which the next one that is not kept is read.
-#[derive(Drop)]
+#[derive(Clone, Copy)]
 pub struct Again {
     pub statement: Statement,
     pub next: Cursor,

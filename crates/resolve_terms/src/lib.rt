@@ -1,4 +1,6 @@
 // What a COVARIATE brings: the effects of its parameters, covariates and forms, as terms, a number each.
+#![tactic(auto)]
+
 ghost use Rattle.std.specs.Prelude.{◌≡◌, not, [], ◌∷◌, ◌+◌, ◌*◌, ◌≤◌, ◌<◌};
 ghost use Rattle.read_packs.specs.Packs.{places};
 ghost use Rattle.read_forms.specs.Forms.{modes_in};
@@ -16,7 +18,7 @@ use read_forms::Modes;
 use resolve_context::{Kind, Layout};
 
 // The kind of a covariate, where there is a declaration block.
-#[derive(Drop)]
+#[derive(Clone, Copy)]
 pub enum SomeKind {
     Undeclared,
     Declared(Kind),

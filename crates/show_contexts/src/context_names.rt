@@ -15,7 +15,7 @@ pub const DECLARED: usize = 3;
 pub const COLUMNS: usize = 4;
 
 // A name of the block: its offset and its length.
-#[derive(Drop)]
+#[derive(Clone, Copy)]
 pub struct Pair {
     pub offset: usize,
     pub size: usize,

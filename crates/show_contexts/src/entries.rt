@@ -5,7 +5,7 @@ use resolve_context::Kind;
 use show_pages::pages;
 
 // How many bytes and numbers were taken, and how many entries of the last list; and what is wrong, if anything, and where.
-#[derive(Drop)]
+#[derive(Clone, Copy)]
 pub struct Taken {
     pub bytes: usize,
     pub numbers: usize,
@@ -126,7 +126,7 @@ fn take_binding(
 }
 
 // What the word of a kind says.
-#[derive(Drop)]
+#[derive(Clone, Copy)]
 enum KindWord {
     Known(Kind),
     Unknown,

@@ -1,5 +1,7 @@
 // Context files: their rows and names (`rows`, `context_names`, `held`), a file read (`context_file`), what is wrong with one (`context_messages`),
 // and what of one comes to nothing (`losses`).
+#![tactic(auto)]
+
 pub mod context_file;
 pub mod context_messages;
 pub mod context_names;

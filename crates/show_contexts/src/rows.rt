@@ -3,7 +3,7 @@ use show_pages::{pages, places, strange};
 
 // Whether a line has a word; the list that the word names, 5 where it names none; the word from one offset to another; where the row's bytes
 // end; and where the next line starts.
-#[derive(Drop)]
+#[derive(Clone, Copy)]
 pub struct Row {
     pub there: bool,
     pub list: usize,

@@ -2,6 +2,8 @@
 // taken up again. Every other failure is told on standard error: one of a descriptor that has nothing now (EAGAIN) too, for a proved loop has
 // to end and cannot wait. At a pipe that nobody reads (SIGPIPE) and past a limit of a file's size (SIGXFSZ) the system ends the process, unless
 // whoever started it said otherwise; then these are failures as any other.
+#![tactic(auto)]
+
 ghost use Rattle.std.specs.Prelude.{◌≤◌, length};
 ghost use Rattle.show_input.specs.Within.{Within};
 
@@ -9,14 +11,14 @@ use counts::Counted;
 use show_pages::pages;
 
 // How many bytes were read, or that reading failed, which was told.
-#[derive(Drop)]
+#[derive(Clone, Copy)]
 pub enum Got {
     Bytes(usize),
     Failed,
 }
 
 // Whether all was written, a call took nothing, or one failed.
-#[derive(Drop)]
+#[derive(Clone, Copy)]
 pub enum Wrote {
     All,
     Stuck,
@@ -24,7 +26,7 @@ pub enum Wrote {
 }
 
 // What one call moved: so many bytes, or none where it came to an end, was interrupted, or failed.
-#[derive(Drop)]
+#[derive(Clone, Copy)]
 struct Step {
     count: usize,
     ended: bool,
@@ -202,7 +204,7 @@ pub fn write_message(page: &[u8], count: usize) {
 }
 
 // What the words before the others ask for: a ceiling for counts, and the index of the word behind `--ceiling N`; or that N is no number.
-#[derive(Drop)]
+#[derive(Clone, Copy)]
 pub enum Ceiling {
     Under(u32, usize),
     Wrong,

@@ -120,7 +120,7 @@ fn before_return(text: &[u8], start: usize, end: usize) -> usize {
 }
 
 // Where the shown part of a line starts and ends: a long line is cut around the place.
-#[derive(Drop)]
+#[derive(Clone, Copy)]
 struct Cut {
     from: usize,
     to: usize,

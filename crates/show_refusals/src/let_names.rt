@@ -4,7 +4,7 @@ use show_texts::scenes;
 use tokens::Token;
 
 // Where a statement starts, and where the text goes on behind it; a separator is passed by itself.
-#[derive(Drop)]
+#[derive(Clone, Copy)]
 struct Walk {
     start: usize,
     next: usize,

@@ -3,7 +3,7 @@ use show_pages::pages;
 use show_texts::scenes;
 
 // Where the text goes on behind a statement or a separator, and how many bytes were put.
-#[derive(Drop)]
+#[derive(Clone, Copy)]
 struct Walk {
     at: usize,
     len: usize,

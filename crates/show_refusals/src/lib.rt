@@ -3,6 +3,8 @@
 // with it.
 // What in a statement is to blame for 13 to 18: its symbols and operands (`symbol_words`, `operand_places`), its pairs and effects (`pair_tables`,
 // `form_tables`), and the words about them (`names`, `symbols`, `kinds`).
+#![tactic(auto)]
+
 pub mod covariate;
 pub mod culprits;
 pub mod effects;

@@ -6,7 +6,7 @@ use show_pages::pages;
 use show_texts::scenes;
 
 // A statement or a separator: its bytes from one offset to another, and whether it is a COVARIATE, of named parameters or not.
-#[derive(Drop)]
+#[derive(Clone, Copy)]
 struct Walk {
     start: usize,
     end: usize,

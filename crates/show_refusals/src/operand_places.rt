@@ -4,7 +4,7 @@ use show_texts::scenes;
 use tokens::Token;
 
 // An operand: its bytes from one offset to another, whether it is of covariates, and whether its `*` is @IIV.
-#[derive(Drop)]
+#[derive(Clone, Copy)]
 pub struct Operand {
     pub from: usize,
     pub to: usize,

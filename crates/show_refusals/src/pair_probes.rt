@@ -107,7 +107,7 @@ fn shared_by(
 }
 
 // Which earlier statement forces a pair that a table has, and the pair's place.
-#[derive(Drop)]
+#[derive(Clone, Copy)]
 pub struct Forced {
     pub index: usize,
     pub pair: usize,

@@ -6,7 +6,7 @@ pub use crate::pair_forms::{put_forced, put_groups};
 
 // What a COVARIATE brings: so many parameters and covariates; whether its parameters are names, it is optional, its operator is `+`, and its
 // effects are `*`.
-#[derive(Drop)]
+#[derive(Clone, Copy)]
 pub struct Terms {
     pub parameters: usize,
     pub covariates: usize,

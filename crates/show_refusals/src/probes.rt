@@ -6,7 +6,7 @@ use show_contexts::context_names;
 use show_pages::pages;
 
 // Why an operand is refused, 0 where it is not, and how many entries it stands for.
-#[derive(Drop)]
+#[derive(Clone, Copy)]
 pub struct Probed {
     pub number: u8,
     pub count: usize,

@@ -5,7 +5,7 @@ use labels::Family;
 use show_pages::pages;
 
 // What an argument must be.
-#[derive(Drop)]
+#[derive(Clone, Copy)]
 pub enum Wanted {
     Modes(Family),
     Counts,

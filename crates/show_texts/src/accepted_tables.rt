@@ -3,7 +3,7 @@ use labels::Family;
 use show_pages::pages;
 
 // What is kept, and whether there was such a label.
-#[derive(Drop)]
+#[derive(Clone, Copy)]
 struct Listed {
     len: usize,
     there: bool,

@@ -1,5 +1,7 @@
 // Why a text is refused, 1 to 11 and, by the profile, 22 to 24: what stands at the place (`scenes`), what would have been accepted (`accepted`), and
 // the words (`arguments`, `expected`, `found`, `text_messages`, `profile_messages`).
+#![tactic(auto)]
+
 pub mod accepted;
 pub mod accepted_tables;
 pub mod arguments;

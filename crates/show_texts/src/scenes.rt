@@ -16,7 +16,7 @@ pub const BEHIND: u8 = 3;
 
 // The statement's keyword from one offset to another; whether a `?` follows it; how many commas of its arguments were passed; where in it the
 // place is; the kind of the token before, `;` at the start; the offset of the last `[`; and how many statements stand before this one.
-#[derive(Drop)]
+#[derive(Clone, Copy)]
 pub struct Scene {
     pub start: usize,
     pub end: usize,

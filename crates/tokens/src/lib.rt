@@ -1,4 +1,6 @@
 // The tokens of a text: a cursor that answers the next token, and a scan for the first byte that starts none.
+#![tactic(auto)]
+
 ghost use Rattle.std.specs.Prelude.{◌≡◌, ◌+◌, ◌≤◌, ◌<◌, length, drop, get_or};
 ghost use Rattle.text.specs.Bytes.{span};
 ghost use Rattle.tokens.specs.Class.{class_table, class_between, class_number, number, hyphen, letter};
@@ -50,13 +52,13 @@ pub const CLASSES: Classes = *b"\
 ";
 
 // Where reading goes on: the offset of a byte, or the text's length.
-#[derive(Drop)]
+#[derive(Clone, Copy)]
 pub struct Cursor {
     pub at: usize,
 }
 
 // A token with its first byte's offset and the cursor after it; a byte that starts no token; or the text's end.
-#[derive(Drop)]
+#[derive(Clone, Copy)]
 pub enum Lexed {
     Word {
         start: usize,
@@ -88,7 +90,7 @@ pub const END: u8 = 3;
 
 // A token by its kind; a mark is of its own byte's kind. The text's end stands at its length. Readers that ask for one mark or another match
 // on the kind.
-#[derive(Drop)]
+#[derive(Clone, Copy)]
 pub struct Token {
     pub kind: u8,
     pub start: usize,
@@ -96,7 +98,7 @@ pub struct Token {
 }
 
 // What a scan of the whole text finds: no byte amiss, or the offset of the first that starts no token.
-#[derive(Drop)]
+#[derive(Clone, Copy)]
 pub enum Scanned {
     Whole,
     Stray(usize),

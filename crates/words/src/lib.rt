@@ -1,4 +1,6 @@
 // An answer of a call as one number, for programs in other languages: what is given, or a refusal. Every exported call makes its word here.
+#![tactic(auto)]
+
 ghost use Rattle.std.specs.Prelude.{◌≡◌, ◌<◌};
 ghost use Rattle.reading.specs.Answer.{accepted, refused};
 ghost use Rattle.words.specs.Word.{word};

@@ -8,15 +8,15 @@ use Rattle.reading.specs.Argument.{single}
 use Rattle.reading.specs.Syntax.{turn, number_read, argument_read}
 use Rattle.reading.specs.Syntax as syntax
 use Rattle.read_forms.specs.Forms.{arg_in}
-use Rattle.read◌forms.specs.Fits.{Fits}
+use Rattle.read_forms.specs.Fits.{Fits}
 use Rattle.tokens.proofs.Views.{Known, known, known-word, known-number, known-mark}
-use Rattle.read◌arguments.specs.Answers.{read_in, refused_by, arg_then, ArgFurther}
-use Rattle.read◌arguments.proofs.Reading.{read_token, rejected}
-use Rattle.read◌arguments.proofs.Names.{same_name, word_stands, number-stands}
-use Rattle.read◌arguments.proofs.Further.{further}
+use Rattle.read_arguments.specs.Answers.{read_in, refused_by, arg_then, ArgFurther}
+use Rattle.read_arguments.proofs.Reading.{read_token, rejected}
+use Rattle.read_arguments.proofs.Names.{same_name, word_stands, number-stands}
+use Rattle.read_arguments.proofs.Further.{further}
 use borrow.Author.Rules.{rules}
-use Rattle.read◌arguments.proofs.argument.Statement.{statement}
-use Rattle.read◌arguments.proofs.argument.Tie as tie
+use Rattle.read_arguments.proofs.argument.Statement.{statement}
+use Rattle.read_arguments.proofs.argument.Tie as tie
 
 -- what the token's kind tells
 here : (d : tie.After-token) → Known d.before.before.args.text.now d.before.before.args.cur.at d.token.result

@@ -14,16 +14,16 @@ use Rattle.reading.specs.Argument as argument
 use Rattle.reading.specs.Syntax.{Step, empty}
 use Rattle.reading.specs.Syntax as syntax
 use Rattle.read_forms.specs.declared.Args.{Args}
-use Rattle.read◌forms.specs.Forms.{arg_in}
-use Rattle.read◌forms.specs.Fits.{AllFit}
-use Rattle.read◌arguments.specs.declared.ArgRead.TheVariants as argRead
-use Rattle.read◌arguments.specs.Answers.{read_in, step_in, arg_then, ArgFurther, after_then, AfterFurther}
-use Rattle.read◌syntax.specs.declared.Head.{Head}
-use Rattle.read◌syntax.specs.Answers.{call_of, takes_one, call_then, CallFurther}
-use Rattle.read◌syntax.proofs.Going.{misplaced_then, comma-one, comma-more, closed-made, empty-one, empty-none, empty_some}
-use Rattle.read◌syntax.proofs.Held.{args_of, added_at, added, Holds, none-held, none-fit, added-fit, added-held}
-use Rattle.read◌syntax.proofs.read_args.Statement.{statement}
-use Rattle.read◌syntax.proofs.read_args.Tie as tie
+use Rattle.read_forms.specs.Forms.{arg_in}
+use Rattle.read_forms.specs.Fits.{AllFit}
+use Rattle.read_arguments.specs.declared.ArgRead.TheVariants as argRead
+use Rattle.read_arguments.specs.Answers.{read_in, step_in, arg_then, ArgFurther, after_then, AfterFurther}
+use Rattle.read_syntax.specs.declared.Head.{Head}
+use Rattle.read_syntax.specs.Answers.{call_of, takes_one, call_then, CallFurther}
+use Rattle.read_syntax.proofs.Going.{misplaced_then, comma-one, comma-more, closed-made, empty-one, empty-none, empty_some}
+use Rattle.read_syntax.proofs.Held.{args_of, added_at, added, Holds, none-held, none-fit, added-fit, added-held}
+use Rattle.read_syntax.proofs.read_args.Statement.{statement}
+use Rattle.read_syntax.proofs.read_args.Tie as tie
 
 record Gone (s : List ℕ) (limit o : ℕ) (h : Head) (xs : Args) (cur : ℕ) : Type 0 where
   before : List argument.Arg

@@ -3,13 +3,8 @@
 use mathlib.Core.Path.{refl}
 use Rattle.labels.specs.Label.{labels_of}
 use Rattle.labels.specs.Table.{label_table}
-use borrow.Author.Rules.{rules}
-use Rattle.labels.proofs.mode.Statement.{statement}
-use Rattle.labels.proofs.mode.Tie as tie
+use Rattle.labels.proofs.mode.Goals as goal
 
-pub mode_spec : {M : Type 1} → statement M
+pub find_mode-requires : goal.find_mode-requires
 unfolding label_table labels_of
-mode_spec = tie.close
-    (tie.spec
-    (λ c κs. refl)
-    (λ c. search rules))
+find_mode-requires c = refl

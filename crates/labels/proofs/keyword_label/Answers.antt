@@ -8,16 +8,16 @@ use lib.ListN.{get_or}
 use Rattle.labels.specs.Label.{keywords}
 use Rattle.labels.specs.Row.{label_at, row_fits}
 use Rattle.labels.proofs.Tables.{held-row, lent, keywords-held}
-use Rattle.labels.proofs.keyword_label.Statement.{statement}
-use Rattle.labels.proofs.keyword_label.Tie as tie
+use Rattle.labels.proofs.keyword_label.Goals.{Start}
+use Rattle.labels.proofs.keyword_label.Goals as goal
 
 -- the row of the keyword
-row : (c : tie.Start)
+row : (c : Start)
     → (row_fits c.args.keys.now c.args.place ≡ true) × (label_at c.args.keys.now c.args.place ≡ get_or keywords c.args.place [])
-row c = rw (zero-add c.args.place) at (held-row (lent c.requires.0 keywords-held) c.args.place c.requires.1)
+row c = rw (zero-add c.args.place) at (held-row (lent c.requires.keys_value keywords-held) c.args.place c.requires.place_in_bounds)
 
-pub keyword_label_spec : {M : Type 1} → statement M
-keyword_label_spec = tie.close
-    (tie.spec
-    (λ c κs. (row c.before).0)
-    (λ c. c.label_at.ensures ∙ (row c.before.before).1))
+pub label_at-requires : goal.label_at-requires
+label_at-requires c = (row (goal.at.label_at-requires c).Start).0
+
+pub returns : goal.returns
+returns c = c.label_at.ensures ∙ (row (goal.at.returns c).Start).1
