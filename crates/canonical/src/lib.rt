@@ -1,3 +1,2 @@
 // Printing: the definition of what a canonical text is stands in specs/.
 #![tactic(auto)]
-

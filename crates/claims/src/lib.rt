@@ -1,3 +1,2 @@
 // What is claimed of the calls together: no code.
 #![tactic(auto)]
-

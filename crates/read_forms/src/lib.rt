@@ -2,7 +2,6 @@
 // entries it has.
 #![tactic(auto)]
 
-
 ghost use Rattle.std.specs.Prelude.{◌≡◌};
 ghost use Rattle.counts.specs.Count.{count_of};
 ghost use Rattle.read_forms.specs.Items.{name_in};

@@ -19,8 +19,8 @@ pub loop-i-preserved : goal.loop-i-preserved
 loop-i-preserved c =
     alike-on c.loop-i.invariant c.loop-i-test.true
     (elim c.if-a-b.branch [
-      then-a-b+else-lower_byte w ↦ sym w.lower_byte.ensures ∙ w.if-lower_byte.false ∙ w.lower_byte-then-a-b.ensures
-    | else-a-b w ↦ ap lower w.if-a-b.false
+      | then-a-b+else-lower_byte w ↦ sym w.lower_byte.ensures ∙ w.if-lower_byte.false ∙ w.lower_byte-then-a-b.ensures
+      | else-a-b w ↦ ap lower w.if-a-b.false
     ])
 
 pub returns-then-word-label : goal.returns-then-word-label

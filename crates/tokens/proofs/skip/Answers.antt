@@ -13,26 +13,26 @@ class_at-class-requires c = (c.requires, c.loop-i-test.true)
 
 pub returns-then-class-lt-BLANK : goal.returns-then-class-lt-BLANK
 returns-then-class-lt-BLANK c = record {
-      same = c.loop-i.invariant;
-      stands = λ h. simp (← c.class_at-class.ensures, lt-leb 4 _ c.if-class-lt-BLANK.true);
-    }
+  same = c.loop-i.invariant;
+  stands = λ h. simp (← c.class_at-class.ensures, lt-leb 4 _ c.if-class-lt-BLANK.true);
+}
 
 pub returns-then-class-gt-HASH : goal.returns-then-class-gt-HASH
 returns-then-class-gt-HASH c = record {
-      same = c.loop-i.invariant;
-      stands = λ h. simp (← c.class_at-class.ensures, lt-leb _ 5 c.if-class-gt-HASH.true, and-false);
-    }
+  same = c.loop-i.invariant;
+  stands = λ h. simp (← c.class_at-class.ensures, lt-leb _ 5 c.if-class-gt-HASH.true, and-false);
+}
 
 pub passed-i-requires : goal.passed-i-requires
 passed-i-requires c = (
-      c.requires,
-      record {
-        inside = c.loop-i-test.true;
-        class_is = c.class_at-class.ensures;
-        least = c.if-class-lt-BLANK.false;
-        most = c.if-class-gt-HASH.false;
-      },
-    )
+  c.requires,
+  record {
+    inside = c.loop-i-test.true;
+    class_is = c.class_at-class.ensures;
+    least = c.if-class-lt-BLANK.false;
+    most = c.if-class-gt-HASH.false;
+  },
+)
 
 pub loop-i-smaller : goal.loop-i-smaller
 loop-i-smaller c = omega (arith, c.passed-i.ensures.further, c.passed-i.ensures.within)

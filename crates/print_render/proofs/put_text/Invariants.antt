@@ -1,0 +1,11 @@
+-- What the loop keeps, and what it counts down.
+use Prim.Native.Nat.{◌-◌}
+use lib.ListN.{length}
+use Rattle.print_render.proofs.Loop.{Sofar}
+use Rattle.print_render.proofs.put_text.Given as goal
+
+abbrev pub invariant-loop-form : goal.invariant-loop-form
+invariant-loop-form l = Sofar l.limit l.text l.initial.out l.out l.n l.cur.at l.at
+
+abbrev pub decreases-loop-form : goal.decreases-loop-form
+decreases-loop-form l = length l.text - l.cur.at

@@ -1,0 +1,33 @@
+-- `read_checks::lone_mode` meets its contract: a word alone stands alone in its number. Assumes nothing.
+use mathlib.Core.Path.{◌∙◌, sym}
+use Prim.Native.Nat.{◌<◌}
+use native.Mathlib.Omega.{arith}
+use Rattle.labels.specs.Word.{find}
+use Rattle.read_checks.specs.Answers.{modes_as}
+use Rattle.read_checks.proofs.Judging.{found_some}
+use Rattle.read_checks.proofs.Modes.{found-small}
+use Rattle.read_checks.proofs.Arguments.{lone_found, lone_unknown}
+use Rattle.read_checks.proofs.lone_mode.Goals.{In-Place}
+use Rattle.read_checks.proofs.lone_mode.Goals as goal
+
+small : (c : In-Place) → c.in-Place.place < 7
+small c =
+    found-small _ _ _ (found_some (find _ _) _ (sym c.in-Place.is ∙ c.mode_at.ensures))
+
+pub overflow_cast-result : goal.overflow_cast-result
+overflow_cast-result c = record { fits = omega (arith, small (goal.at.overflow_cast-result c).In-Place) }
+
+pub overflow_add-result : goal.overflow_add-result
+overflow_add-result c = record { fits = omega (arith, small (goal.at.overflow_add-result c).In-Place) }
+
+pub returns-in-Place : goal.returns-in-Place
+unfolding modes_as
+returns-in-Place c =
+    let a = c.args in
+    lone_found a.family a.text.now a.name _ (sym c.in-Place.is ∙ c.mode_at.ensures)
+
+pub returns-in-Nothing : goal.returns-in-Nothing
+unfolding modes_as
+returns-in-Nothing c =
+    let a = c.args in
+    lone_unknown a.family a.text.now a.name (sym c.in-Nothing.is ∙ c.mode_at.ensures)

@@ -1,0 +1,92 @@
+-- `read_profile::first_fault` meets its contract. The invariant: the flags say which of the five were seen, and what is said of the statements that
+-- are left is said of all; each turn passes one.
+-- Assumes nothing.
+use Prim.Native.Nat.{◌≤◌, ◌<◌}
+use native.Mathlib.Omega.{arith}
+use mathlib.Core.Path.{◌∙◌, ap, subst}
+use lib.ListN.{length}
+use Rattle.profiling.specs.Profile.{profile_of}
+use Rattle.read_profile.specs.Answers.{mark_as, Numbered, profiled_as}
+use Rattle.read_profile.proofs.Judging.{none_judged, all_judged, outside-refused, plain-passed, second-refused, high-refused, once-passed, form-fits}
+use Rattle.read_profile.proofs.first_fault.Goals.{In-Once-2, In-loop-i, Start}
+use Rattle.read_profile.proofs.first_fault.Goals as goal
+
+-- the array has room for all statements, and there are at most 256
+all_held : (s : Start) → s.args.space.count ≤ length s.args.space.forms
+all_held s = omega (arith, s.requires.1.few, s.requires.1.wide)
+
+index_below : (t : In-loop-i) → t.loop-i.i < 256
+index_below t = omega (arith, t.loop-i-test.true, t.requires.1.few)
+
+-- which of the five it is
+below : (f : In-Once-2) → f.in-Once.feature < 5
+unfolding Numbered
+below f = subst Numbered f.in-Once.is f.mark_of.ensures.1
+
+pub loop-i-init : goal.loop-i-init
+loop-i-init c = none_judged _ _ _
+
+pub offset_bounds-forms-i : goal.offset_bounds-forms-i
+offset_bounds-forms-i c = omega (arith, index_below (goal.at.offset_bounds-forms-i c).In-loop-i)
+
+pub bounds-forms-i : goal.bounds-forms-i
+bounds-forms-i c = index_below (goal.at.bounds-forms-i c).In-loop-i
+
+pub mark_of-requires : goal.mark_of-requires
+mark_of-requires c =
+    (c.requires.0, form-fits _ _ (c.requires.2 _ c.loop-i.i c.loop-i-test.true))
+
+pub returns-in-Outside : goal.returns-in-Outside
+unfolding mark_as profiled_as profile_of
+returns-in-Outside c =
+    ap profiled_as c.refused.ensures
+    ∙ outside-refused c.loop-i.invariant _ c.loop-i-test.true (all_held (goal.at.returns-in-Outside c).Start) (mark_as c.mark_of.result) c.mark_of.ensures.0
+    (ap mark_as c.in-Outside.is)
+
+pub overflow_add-i : goal.overflow_add-i
+overflow_add-i c = omega (arith, index_below (goal.at.overflow_add-i c).In-loop-i)
+
+pub loop-i-smaller-in-Plain : goal.loop-i-smaller-in-Plain
+loop-i-smaller-in-Plain c = omega (arith, c.loop-i-test.true)
+
+pub loop-i-preserved-in-Plain : goal.loop-i-preserved-in-Plain
+unfolding mark_as
+loop-i-preserved-in-Plain c =
+    plain-passed c.loop-i.invariant _ c.loop-i-test.true (all_held (goal.at.loop-i-preserved-in-Plain c).Start) (mark_as c.mark_of.result) c.mark_of.ensures.0
+    (ap mark_as c.in-Plain.is)
+
+pub bounds-seen-feature : goal.bounds-seen-feature
+bounds-seen-feature c = below (goal.at.bounds-seen-feature c).In-Once-2
+
+pub returns-then-seen-feature : goal.returns-then-seen-feature
+unfolding mark_as profiled_as profile_of
+returns-then-seen-feature c =
+    ap profiled_as c.refused-then-seen-feature.ensures
+    ∙ second-refused c.loop-i.invariant _ c.loop-i-test.true (all_held (goal.at.returns-then-seen-feature c).Start) (mark_as c.mark_of.result) c.mark_of.ensures.0
+    c.in-Once.feature c.in-Once.high (below (goal.at.returns-then-seen-feature c).In-Once-2) (ap mark_as c.in-Once.is) c.if-seen-feature.true
+
+pub returns-then-high : goal.returns-then-high
+unfolding mark_as profiled_as profile_of
+returns-then-high c =
+    ap profiled_as c.refused-then-high.ensures
+    ∙ high-refused c.loop-i.invariant _ c.loop-i-test.true (all_held (goal.at.returns-then-high c).Start) (mark_as c.mark_of.result) c.mark_of.ensures.0
+    c.in-Once.feature c.in-Once.high (below (goal.at.returns-then-high c).In-Once-2) (ap mark_as c.in-Once.is) c.if-seen-feature.false c.if-high.true
+
+pub bounds-seen-feature-in-Once : goal.bounds-seen-feature-in-Once
+bounds-seen-feature-in-Once c = below (goal.at.bounds-seen-feature-in-Once c).In-Once-2
+
+pub overflow_add-i-in-Once : goal.overflow_add-i-in-Once
+overflow_add-i-in-Once c = omega (arith, index_below (goal.at.overflow_add-i-in-Once c).In-loop-i)
+
+pub loop-i-smaller : goal.loop-i-smaller
+loop-i-smaller c = omega (arith, c.loop-i-test.true)
+
+pub loop-i-preserved : goal.loop-i-preserved
+unfolding mark_as
+loop-i-preserved c =
+    once-passed c.loop-i.invariant _ c.loop-i-test.true (all_held (goal.at.loop-i-preserved c).Start) (mark_as c.mark_of.result) c.mark_of.ensures.0
+    c.in-Once.feature c.in-Once.high (below (goal.at.loop-i-preserved c).In-Once-2) (ap mark_as c.in-Once.is) c.if-seen-feature.false c.if-high.false
+
+pub returns : goal.returns
+unfolding profiled_as profile_of
+returns c = all_judged c.loop-i.invariant (omega (arith, c.loop-i-test.false))

@@ -1,0 +1,13 @@
+-- What the loop keeps, and what it counts down.
+use Prim.Native.Nat.{◌-◌}
+use mathlib.Core.Path.{◌≡◌}
+use lib.ListN.{length}
+use Rattle.read_statements.proofs.Keeping.{Keeping}
+use Rattle.read_space.specs.Space.{form_in}
+use Rattle.read_space.proofs.read_space.Given as goal
+
+abbrev pub invariant-loop-statement : goal.invariant-loop-statement
+invariant-loop-statement l = Keeping (form_in l.text) l.limit l.text l.forms l.n l.cur.at × (length l.forms ≡ 256)
+
+abbrev pub decreases-loop-statement : goal.decreases-loop-statement
+decreases-loop-statement l = length l.text - l.cur.at

@@ -1,0 +1,19 @@
+-- What the loop keeps, and what it counts down.
+use Prim.Native.Nat.{ℕ, ◌-◌, ◌≤◌}
+use mathlib.Core.Path.{◌≡◌}
+use mathlib.Core.List.{List}
+use lib.ListN.{length}
+use Rattle.reading.specs.Read.{between}
+use Rattle.read_statements.specs.Answers.{reading_at}
+use Rattle.reading.specs.Calls.{counted}
+use Rattle.read_text.proofs.count_from.Given as goal
+
+pub record Gone (s : List ℕ) (limit n cur : ℕ) : Type 0 where
+  pub same : counted 0 (reading_at limit s 0 between 0) ≡ counted n (reading_at limit s n between cur)
+  pub few : n ≤ cur
+
+abbrev pub invariant-loop-c : goal.invariant-loop-c
+invariant-loop-c l = Gone l.text l.limit l.n l.cur.at
+
+abbrev pub decreases-loop-c : goal.decreases-loop-c
+decreases-loop-c l = length l.text - l.cur.at

@@ -1,0 +1,20 @@
+-- What the loop keeps, and what it counts down.
+use Prim.Native.Nat.{ℕ, ◌-◌, ◌≤◌}
+use mathlib.Core.List.{List}
+use lib.ListN.{length}
+use Rattle.reading.specs.Read.{between}
+use Rattle.read_forms.specs.declared.Statement.{Statement}
+use Rattle.read_forms.specs.Forms.{statement_in}
+use Rattle.read_statements.specs.Answers.{reading_at}
+use Rattle.read_text.proofs.Indexes.{Sought}
+use Rattle.read_text.proofs.nth.Given as goal
+
+pub record Gone (s : List ℕ) (limit index n cur : ℕ) (kept : Statement) : Type 0 where
+  pub sought : Sought index n (statement_in s kept) (reading_at limit s 0 between 0) (reading_at limit s n between cur)
+  pub few : n ≤ cur
+
+abbrev pub invariant-loop-form : goal.invariant-loop-form
+invariant-loop-form l = Gone l.text l.limit l.index l.n l.cur.at l.kept
+
+abbrev pub decreases-loop-form : goal.decreases-loop-form
+decreases-loop-form l = length l.text - l.cur.at

@@ -1,0 +1,191 @@
+-- `resolve_features::bring_covariate` meets its contract: what the operands answered says what the COVARIATE brings.
+-- Assumes nothing.
+use Prim.Native.Nat.{ℕ}
+use mathlib.Core.Path.{◌≡◌, refl, ◌∙◌, ap, sym, subst₂}
+use mathlib.Core.Bool.{Bool}
+use mathlib.Core.List.{List}
+use native.Mathlib.Omega.{arith}
+use lib.ListN.{length, take}
+use Rattle.read_forms.specs.Forms.{op_as, operand_in}
+use Rattle.resolving.specs.Handed.{handed_context}
+use Rattle.resolve_context.specs.declared.Layout.{Layout}
+use Rattle.resolve_context.specs.Lists.{covariates_of}
+use Rattle.resolve_context.proofs.Meaning.{parameters_sound, covariates_sound}
+use Rattle.resolve_operands.specs.declared.Entries.{Entries}
+use Rattle.resolve_operands.specs.Picked.{Picked}
+use Rattle.resolve_operands.specs.Entries.{EntriesAs, meaning_in}
+use Rattle.resolve_terms.specs.Terms.{head_number}
+use Rattle.resolve_features.specs.Terms.{CovariateAs}
+use Rattle.resolve_features.proofs.Covariates.{indexes-more, head_small, Call, Found, first_of, second_of, covariate-refused, covariate-refused_2, covariate-dropped, covariate-dropped-2, covariate-against, numbers-few, covariate-termed}
+use Rattle.resolve_features.proofs.Variables.{picked_many}
+use Rattle.resolve_features.proofs.bring_covariate.Goals.{After-covariates_of, After-parameters_of, Else-others-eq0, Else-own-eq0, In-Count, In-Count-covariates_of, Start}
+use Rattle.resolve_features.proofs.bring_covariate.Goals as goal
+
+abbrev call : Start → Call
+call s =
+    let c = handed_context s.args.block.now s.args.lists.now in
+    record {
+      context = c;
+      look = meaning_in s.args.text.now s.args.lets.now s.args.n c;
+      optional = s.args.optional;
+      parameters = operand_in s.args.text.now s.args.parameters;
+      covariates = operand_in s.args.text.now s.args.covariates;
+      effects = s.args.effects;
+      op = op_as s.args.op;
+    }
+
+-- the arrays that were lent
+abbrev lent : After-parameters_of → List ℕ
+lent p = p.parameters_of.new.1.1.1.1.1.1.1.1.0
+
+abbrev lent_2 : After-covariates_of → List ℕ
+lent_2 v = v.covariates_of.new.1.1.1.1.1.1.1.0
+
+-- what the operands answered, by the layout that was handed
+looked : (p : After-parameters_of) {r : Entries} → p.parameters_of.result ≡ r
+    → EntriesAs p.args.layout.parameters.count (first_of (call (goal.at.After-parameters_of p).Start)) (lent p) r
+looked p e =
+    subst₂ (λ (y : Layout) (x : Entries). EntriesAs y.parameters.count (first_of (call (goal.at.After-parameters_of p).Start)) (lent p) x) (sym p.requires.1.there) e
+    p.parameters_of.ensures
+
+abbrev top : After-covariates_of → Start
+top v = v
+
+looked_2 : (v : After-covariates_of) {r : Entries} → v.covariates_of.result ≡ r
+    → let s = top v in EntriesAs (covariates_of s.args.layout).count (second_of (call s)) (lent_2 v) r
+looked_2 v e =
+    let s = top v in
+    subst₂ (λ (y : Layout) (x : Entries). EntriesAs (covariates_of y).count (second_of (call s)) (lent_2 v) x) (sym s.pre.1.there) e
+    v.covariates_of.ensures
+
+-- the first has indexes
+module _ (k : In-Count) where
+  abbrev answered : After-parameters_of
+  answered = k
+
+  abbrev own : ℕ
+  own = k.in-Count.count
+
+  picked : let s = answered in Picked s.args.layout.parameters.count (first_of (call s)) (lent answered) own
+  picked = looked answered k.in-Count.is
+
+  abbrev list : List ℕ
+  list = take own (lent answered)
+
+-- and the other has
+module _ (k : In-Count-covariates_of) where
+  abbrev answered_2 : After-covariates_of
+  answered_2 = k
+
+  abbrev others : ℕ
+  others = k.in-Count-covariates_of.count
+
+  picked_2 : let s = top answered_2 in Picked (covariates_of s.args.layout).count (second_of (call s)) (lent_2 answered_2) others
+  picked_2 = looked_2 answered_2 k.in-Count-covariates_of.is
+
+  abbrev list_2 : List ℕ
+  list_2 = take others (lent_2 answered_2)
+
+  abbrev firstly : In-Count
+  firstly = answered_2.before.before
+
+  abbrev begun : Start
+  begun = start (answered firstly)
+
+  found : Found (call begun) (list firstly) list_2
+  found =
+      let a = begun.args in
+      record {
+        first = (picked firstly).found;
+        second = picked_2.found;
+        indexes =
+            indexes-more (picked firstly).indexes (parameters_sound a.block.now a.lists.now a.layout begun.pre.1).few;
+        indexes_2 = indexes-more picked_2.indexes (covariates_sound a.block.now a.lists.now a.layout begun.pre.1).few;
+      }
+
+pub parameters_of-requires : goal.parameters_of-requires
+parameters_of-requires c =
+    (c.requires.0, c.requires.1.is, c.requires.2, c.requires.3, refl)
+
+pub covariates_of-requires : goal.covariates_of-requires
+covariates_of-requires c =
+    let s = start (answered (goal.at.covariates_of-requires c).In-Count) in
+    (s.pre.0, s.pre.1.is, s.pre.2, s.pre.4, refl)
+
+pub returns-in-Refused : goal.returns-in-Refused
+unfolding CovariateAs
+returns-in-Refused c =
+    (covariate-refused (call (goal.at.returns-in-Refused c).Start) (looked (goal.at.returns-in-Refused c).After-parameters_of c.in-Refused.is), refl)
+
+pub returns-in-Refused-covariates_of : goal.returns-in-Refused-covariates_of
+unfolding CovariateAs
+returns-in-Refused-covariates_of c =
+    (covariate-refused_2 (call (top (goal.at.returns-in-Refused-covariates_of c).After-covariates_of)) (picked (goal.at.returns-in-Refused-covariates_of c).In-Count).found (looked_2 (goal.at.returns-in-Refused-covariates_of c).After-covariates_of c.in-Refused-covariates_of.is), refl)
+
+pub returns-then-own-eq0 : goal.returns-then-own-eq0
+unfolding CovariateAs
+returns-then-own-eq0 c =
+    (covariate-dropped (found (goal.at.returns-then-own-eq0 c).In-Count-covariates_of) (picked_many (picked (firstly (goal.at.returns-then-own-eq0 c).In-Count-covariates_of)) ∙ c.if-own-eq0.true), refl)
+
+-- there are parameters, and there are covariates
+some_own : (f : Else-own-eq0) → length (list (firstly (goal.at.Else-own-eq0 f).In-Count-covariates_of)) ≡ 0 → ⊥
+some_own f h = f.if-own-eq0.false (sym (picked_many (picked (firstly (goal.at.Else-own-eq0 f).In-Count-covariates_of))) ∙ h)
+
+some_others : (g : Else-others-eq0) → length (list_2 (goal.at.Else-others-eq0 g).In-Count-covariates_of) ≡ 0 → ⊥
+some_others g h = g.if-others-eq0.false (sym (picked_many (picked_2 (goal.at.Else-others-eq0 g).In-Count-covariates_of)) ∙ h)
+
+pub returns-then-others-eq0 : goal.returns-then-others-eq0
+unfolding CovariateAs
+returns-then-others-eq0 c =
+    (covariate-dropped-2 (found (goal.at.returns-then-others-eq0 c).In-Count-covariates_of) (some_own (goal.at.returns-then-others-eq0 c).Else-own-eq0) (picked_many (picked_2 (goal.at.returns-then-others-eq0 c).In-Count-covariates_of) ∙ c.if-others-eq0.true), refl)
+
+pub slice_bounds-second-end : goal.slice_bounds-second-end
+slice_bounds-second-end g = let q = picked_2 (goal.at.slice_bounds-second-end g).In-Count-covariates_of in omega (arith, q.few, q.size)
+
+pub any_against-requires : goal.any_against-requires
+any_against-requires c = ((begun (goal.at.any_against-requires c).In-Count-covariates_of).pre.1, (picked_2 (goal.at.any_against-requires c).In-Count-covariates_of).indexes)
+
+pub returns-then-any_against : goal.returns-then-any_against
+unfolding CovariateAs
+returns-then-any_against c =
+    (covariate-against (found (goal.at.returns-then-any_against c).In-Count-covariates_of) (some_own (goal.at.returns-then-any_against c).Else-own-eq0) (some_others (goal.at.returns-then-any_against c).Else-others-eq0) c.any_against.ensures c.if-any_against.true, refl)
+
+pub slice_bounds-first-end : goal.slice_bounds-first-end
+slice_bounds-first-end h = let q = picked (firstly (passed h)) in omega (arith, q.few, q.size)
+
+pub slice_bounds-second-end-2 : goal.slice_bounds-second-end-2
+slice_bounds-second-end-2 c = array_share_prefix_second c
+
+pub put_terms-requires : goal.put_terms-requires
+put_terms-requires c =
+    let k = passed c in
+    let s = begun k in
+    let a = s.args in
+    let few = numbers-few (found k) c.head_of-head.result in (
+      s.pre.1,
+      (found k).indexes,
+      (picked_2 k).indexes,
+      omega (arith, c.head_of-head.ensures, head_small a.index c.is_named.result (op_as a.op) a.optional s.pre.6),
+      omega (arith, s.pre.7, few),
+    )
+
+pub returns : goal.returns
+unfolding CovariateAs
+returns c =
+    let s = begun (goal.at.returns c).In-Count-covariates_of in
+    let a = s.args in
+    covariate-termed (found (goal.at.returns c).In-Count-covariates_of) (some_own (goal.at.returns c).Else-own-eq0) (some_others (goal.at.returns c).Else-others-eq0) c.any_against.ensures c.if-any_against.false s.pre.5 a.index s.pre.6
+    (c.head_of-head.ensures ∙ ap (λ (x : Bool). head_number a.index x (op_as a.op) a.optional) (c.is_named.ensures a.text.now))
+    c.put_terms.ensures
+
+pub slice_bounds-any_against-end : goal.slice_bounds-any_against-end
+slice_bounds-any_against-end c = sym (picked_many (picked_2 (goal.at.slice_bounds-any_against-end c).In-Count-covariates_of))
+
+pub head_of-head-requires : goal.head_of-head-requires
+head_of-head-requires c = (begun (passed c)).pre.6
+
+pub slice_bounds-put_terms-end : goal.slice_bounds-put_terms-end
+slice_bounds-put_terms-end c = sym (picked_many (picked (firstly (passed c))))
+
+pub slice_bounds-put_terms-end-2 : goal.slice_bounds-put_terms-end-2
+slice_bounds-put_terms-end-2 c = sym (picked_many (picked_2 (passed c)))

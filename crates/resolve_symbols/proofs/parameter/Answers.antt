@@ -1,0 +1,16 @@
+-- `resolve_symbols::parameter` meets its contract: the name is the parameter's at the place. Assumes nothing.
+use mathlib.Core.Path.{refl, subst}
+use Rattle.resolve_context.proofs.Meaning.{parameters_sound}
+use Rattle.resolve_symbols.specs.Brings.{FoundBelow}
+use Rattle.resolve_symbols.proofs.Brings.{yields_nothing, yields_pair}
+use Rattle.resolve_symbols.proofs.parameter.Goals as goal
+
+pub pair_at-requires : goal.pair_at-requires
+pair_at-requires c =
+    (subst (FoundBelow c.args.layout.parameters.count) c.in-Place.is c.requires.1, parameters_sound _ _ _ c.requires.0)
+
+pub returns-in-Place : goal.returns-in-Place
+returns-in-Place c = rw c.in-Place.is (yields_pair _ c.pair_at.ensures.0 c.pair_at.ensures.1 refl)
+
+pub returns-in-Nothing : goal.returns-in-Nothing
+returns-in-Nothing c = rw c.in-Nothing.is (yields_nothing refl)

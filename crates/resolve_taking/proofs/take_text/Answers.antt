@@ -1,0 +1,371 @@
+-- `resolve_taking::take_text` meets its contract: statements are kept as they are read; their LETs are gathered; and they are taken in order. Those that are not
+-- kept are read again.
+-- Assumes nothing.
+use Prim.Native.Nat.{suc, ◌≤◌, ◌<◌}
+use mathlib.Core.Path.{◌≡◌, refl, ◌∙◌, ap, sym, subst}
+use mathlib.Core.Logic.{⊎_elim}
+use native.Mathlib.Omega.{arith}
+use lib.ListN.{length}
+use borrow.Author.Rules.{rules}
+use Rattle.reading.specs.Read.{between, prepend}
+use Rattle.resolving.specs.Symbols.{lets}
+use Rattle.resolving.specs.Brought.{bring}
+use Rattle.resolve_context.specs.Lists.{Stands}
+use Rattle.resolve_context.proofs.Meaning.{checked_stands, checked_wrong}
+use Rattle.read_forms.specs.Fits.{InText, Listed}
+use Rattle.read_forms.specs.Forms.{statement_in}
+use Rattle.read_statements.specs.Answers.{reading_at, next_then, NextFurther}
+use Rattle.print_writing.proofs.Writing.{same-room}
+use Rattle.resolve_statements.specs.Tallies.{BringAs, PrintsAs}
+use Rattle.resolve_taking.specs.Again.{start_after}
+use Rattle.resolve_taking.specs.Collected.{CollectedAll}
+use Rattle.resolve_taking.specs.Taken.{TakenAs}
+use Rattle.resolve_taking.proofs.Reading.{Reading, none_read, refused-read, one_kept, one-passed, same_reading, ahead-start, AllRead, text_statements, all_read, ahead-few, Here, here, here-fits}
+use Rattle.resolve_taking.proofs.Gathering.{still_quiet, started, all_gathered, feature-passed, key-again, one-gathered, let_stands}
+use Rattle.resolve_taking.proofs.Bringing.{none-brought, one-brought, one-refused, all-brought}
+use Rattle.resolve_taking.proofs.Refusing.{text-refused, context-refused, let-refused, statement-refused}
+use Rattle.resolve_taking.proofs.take_text.Goals.{After-bring_one, After-later-1, After-loop-i, After-statement_at-again, After-statement_at-again-in-loop-k, At-loop-i, Else-has_let, In-End, In-Let-2, In-Refused-bring_one, In-Statement-2, In-loop-i, In-loop-k}
+use Rattle.resolve_taking.proofs.take_text.Goals as goal
+
+-- Reading.
+pub loop-statement-init : goal.loop-statement-init
+loop-statement-init c = rw c.new-cur.ensures (none_read _ _ _ c.no_forms-forms.ensures)
+
+pub next_statement-requires : goal.next_statement-requires
+next_statement-requires c = let p = c.requires in (p.0, p.1, p.2, c.loop-statement.invariant.few)
+
+-- a statement's end lies behind its start, and there were not 256 before it
+forward : (c : In-Statement-2)
+    → (c.loop-statement.cur.at < c.in-Statement.after.at) × (c.in-Statement.after.at ≤ length c.args.text.now) × (c.loop-statement.count < 256)
+unfolding NextFurther
+forward c =
+    subst (NextFurther c.args.text.now c.loop-statement.count c.loop-statement.cur.at) c.in-Statement.is c.next_statement.ensures.next_further
+
+-- it stands before all that is left
+stands-next : (c : In-Statement-2)
+    → let s = c.args.text.now in
+    let limit = c.args.limit in
+    reading_at limit s c.loop-statement.count between c.loop-statement.cur.at
+    ≡ prepend (statement_in s c.in-Statement.statement) (reading_at limit s (suc c.loop-statement.count) between c.in-Statement.after.at)
+unfolding next_then
+stands-next c = c.next_statement.ensures.at_value ∙ ap (next_then _ _ _) c.in-Statement.is
+
+pub lets_end-end-requires : goal.lets_end-end-requires
+lets_end-end-requires c = (forward (goal.at.lets_end-end-requires c).In-Statement-2).2
+
+pub offset_bounds-forms-count : goal.offset_bounds-forms-count
+offset_bounds-forms-count c = omega (arith, c.if-count-lt-FEW.true)
+
+pub bounds-forms-count : goal.bounds-forms-count
+bounds-forms-count c = omega (arith, c.if-count-lt-FEW.true)
+
+pub lets_start-start-requires : goal.lets_start-start-requires
+lets_start-start-requires c = (forward (goal.at.lets_start-start-requires c).In-Statement-2).2
+
+pub overflow_add-count : goal.overflow_add-count
+overflow_add-count c = omega (arith, (forward (goal.at.overflow_add-count c).In-Statement-2).2)
+
+pub loop-statement-smaller : goal.loop-statement-smaller
+loop-statement-smaller c = omega (arith, forward (goal.at.loop-statement-smaller c).In-Statement-2)
+
+pub loop-statement-preserved : goal.loop-statement-preserved
+loop-statement-preserved c =
+    let h = forward (goal.at.loop-statement-preserved c).In-Statement-2 in
+    ⊎_elim
+    (λ w. same_reading w.2 w.4 (w.3 ∙ w.1.ensures ∙ ap (start_after c.loop-statement.count c.loop-statement.start) c.lets_end-end.ensures) c.lets_end-end.ensures
+    (one_kept c.loop-statement.invariant c.in-Statement.statement c.in-Statement.after.at (stands-next (goal.at.loop-statement-preserved c).In-Statement-2) h.0 h.2 w.0.taken))
+    (λ w. same_reading w.1 w.3 w.2 c.lets_end-end.ensures (one-passed c.loop-statement.invariant c.in-Statement.statement c.in-Statement.after.at (stands-next (goal.at.loop-statement-preserved c).In-Statement-2) h.0 h.2 w.0.left))
+    c.if-count-lt-FEW.branch-raw
+
+pub earliest-refusal-requires : goal.earliest-refusal-requires
+earliest-refusal-requires c = c.requires.0
+
+pub returns-in-Refused : goal.returns-in-Refused
+unfolding next_then TakenAs
+returns-in-Refused c =
+    text-refused c.args.limit _ _ _
+    (c.earliest-refusal.ensures c.args.limit c.requires.3
+    (refused-read c.loop-statement.invariant _ _ (c.next_statement.ensures.at_value ∙ ap (next_then _ _ _) c.in-Refused.is)))
+
+whole : (e : In-End)
+    → let a = e.args in
+    AllRead a.limit a.text.now (text_statements a.limit a.text.now) e.loop-statement.forms e.loop-statement.count e.loop-statement.later.at e.loop-statement.start e.loop-statement.end
+unfolding next_then
+whole e =
+    all_read e.loop-statement.inv e.requires.3 (e.next_statement.ensures.at_value ∙ ap (next_then _ _ _) e.in-End.is)
+
+-- The context.
+pub check-requires : goal.check-requires
+check-requires c = c.requires.0
+
+pub returns-in_default : goal.returns-in_default
+unfolding TakenAs
+returns-in_default c =
+    context-refused c.args.limit _ _ _ (whole (goal.at.returns-in_default c).In-End).read (checked_wrong _ _ (sym c.check.ensures ∙ c.in_default.is))
+
+stands : (m : At-loop-i)
+    → let a = (start (loop_at m)).args in
+    Stands a.block.now a.lists.now m.in-Context.layout
+stands m =
+    checked_stands _ _ _ (sym m.check.ensures ∙ m.in-Context.is)
+
+-- LETs.
+pub loop-i-init : goal.loop-i-init
+loop-i-init c =
+    let w = whole (goal.at.loop-i-init c).In-End in
+    (started _ _ _ _ (omega (arith, w.early.0, w.many)) w.calm, ahead-start w, refl)
+
+pub offset_bounds-forms-slot : goal.offset_bounds-forms-slot
+offset_bounds-forms-slot c = omega (arith, c.slot.ensures.0)
+
+pub bounds-forms-slot : goal.bounds-forms-slot
+bounds-forms-slot c = omega (arith, c.slot.ensures.0)
+
+-- the index of a turn lies among the statements
+within : (t : In-loop-i)
+    → let l = loop_at t in
+    let a = l.args in
+    (t.loop-i.i < l.loop.count) × (t.loop-i.i < length (text_statements a.limit a.text.now)) × (t.loop-i.i < 256)
+within t =
+    let w = whole (goal.at.In-loop-i t).In-End in
+    (omega (arith, t.loop-i-test.true, w.bound), omega (arith, t.loop-i-test.true, w.bound, w.many), omega (arith, t.loop-i-test.true, w.bound, w.most))
+
+pub statement_at-again-requires : goal.statement_at-again-requires
+statement_at-again-requires c =
+    let p = (start (loop_at c)).pre in
+    (p.0, p.1, p.2, λ q. ahead-few c.loop-i.invariant.1 (within (goal.at.statement_at-again-requires c).In-loop-i).1 q)
+
+-- the statement of a turn
+stands_here : (x : After-statement_at-again)
+    → let a = (start (loop_at x)).args in
+    Here a.limit a.text.now (text_statements a.limit a.text.now) x.loop-i.i x.statement_at-again.result
+stands_here x =
+    here (whole (goal.at.After-statement_at-again x).In-End) x.loop-i.invariant.1 (within (goal.at.After-statement_at-again x).In-loop-i).0 _ x.slot.ensures.1 x.statement_at-again.ensures
+
+-- a LET's name and values
+let_here : (x : In-Let-2)
+    → let s = (start (loop_at x)).args.text.now in
+    InText s x.in-Let.name × Listed s x.in-Let.values
+let_here x =
+    let_stands _ _ x.in-Let.name x.in-Let.values
+    (here-fits (whole (goal.at.In-Let-2 x).In-End).read (within (goal.at.In-Let-2 x).In-loop-i).1 (stands_here (goal.at.In-Let-2 x).After-statement_at-again)) x.in-Let.is
+
+pub has_let-requires : goal.has_let-requires
+has_let-requires c =
+    (c.loop-i.invariant.0.fit, (let_here (goal.at.has_let-requires c).In-Let-2).0)
+
+pub shape_of-lets-then-has_let : goal.shape_of-lets-then-has_let
+shape_of-lets-then-has_let c = c.loop-i.invariant.2
+
+pub returns-then-has_let : goal.returns-then-has_let
+unfolding TakenAs
+returns-then-has_let c =
+    let-refused (start (loop_at c)).args.limit _ _ _ (whole (goal.at.returns-then-has_let c).In-End).read (stands (goal.at.returns-then-has_let c).At-loop-i).is
+    (key-again c.loop-i.invariant.0 _ (stands_here (goal.at.returns-then-has_let c).After-statement_at-again).first c.in-Let.name c.in-Let.values c.in-Let.is
+    c.has_let.ensures c.if-has_let.true)
+
+-- there is one less than there are statements
+below : (e : Else-has_let) → e.loop-i.n < 256
+below e = omega (arith, (within (goal.at.Else-has_let e).In-loop-i).2, e.loop-i.inv.0.few)
+
+pub overflow_mul-n : goal.overflow_mul-n
+overflow_mul-n c = omega (arith, below (goal.at.overflow_mul-n c).Else-has_let)
+
+pub overflow_add-n : goal.overflow_add-n
+overflow_add-n c = omega (arith, below (goal.at.overflow_add-n c).Else-has_let)
+
+pub shape_of-lets-then-lets-n : goal.shape_of-lets-then-lets-n
+shape_of-lets-then-lets-n c = c.loop-i.inv.2
+
+pub returns-then-lets-n : goal.returns-then-lets-n
+unfolding TakenAs
+returns-then-lets-n c = omega (arith, c.if-lets-n.true, below (goal.at.returns-then-lets-n c).Else-has_let, c.loop-i.inv.2)
+
+pub put_let-requires : goal.put_let-requires
+put_let-requires c = (
+  c.loop-i.inv.0.fit,
+  below (goal.at.put_let-requires c).Else-has_let,
+  omega (arith, c.if-lets-n.false),
+  c.requires.3.short,
+  (let_here (goal.at.put_let-requires c).In-Let-2).0,
+  (let_here (goal.at.put_let-requires c).In-Let-2).1,
+)
+
+pub overflow_add-n-in-Let : goal.overflow_add-n-in-Let
+overflow_add-n-in-Let c = omega (arith, below (goal.at.overflow_add-n-in-Let c).Else-has_let)
+
+pub overflow_add-i : goal.overflow_add-i
+overflow_add-i c = omega (arith, (within (goal.at.overflow_add-i c).In-loop-i).2)
+
+pub loop-i-smaller-in-Let : goal.loop-i-smaller-in-Let
+loop-i-smaller-in-Let c = omega (arith, c.loop-i-test.taken)
+
+pub loop-i-preserved-in-Let : goal.loop-i-preserved-in-Let
+loop-i-preserved-in-Let c = (
+  one-gathered c.loop-i.inv.0 _ (stands_here (goal.at.loop-i-preserved-in-Let c).After-statement_at-again).first c.in-Let.name c.in-Let.values c.in-Let.is
+      c.has_let.ensures c.if-has_let.left c.put_let.ensures,
+  (stands_here (goal.at.loop-i-preserved-in-Let c).After-statement_at-again).ahead,
+  c.put_let.ensures.size ∙ c.loop-i.inv.2,
+)
+
+pub overflow_add-i-in-Feature : goal.overflow_add-i-in-Feature
+overflow_add-i-in-Feature c = omega (arith, (within (goal.at.overflow_add-i-in-Feature c).In-loop-i).2)
+
+pub loop-i-smaller : goal.loop-i-smaller
+loop-i-smaller c = omega (arith, c.loop-i-test.true)
+
+pub loop-i-preserved : goal.loop-i-preserved
+loop-i-preserved c = (
+  feature-passed c.loop-i.inv.0 _ (stands_here (goal.at.loop-i-preserved c).After-statement_at-again).first c.in-Feature.field-0 c.in-Feature.is,
+  (stands_here (goal.at.loop-i-preserved c).After-statement_at-again).ahead,
+  c.loop-i.inv.2,
+)
+
+-- all LETs stand in the run
+collected : (b : After-loop-i)
+    → let a = (start (loop_at b)).args in
+    CollectedAll a.text.now (text_statements a.limit a.text.now) b.loop-i.lets b.loop-i.n
+collected b =
+    let a = (start (loop_at b)).args in
+    let w = whole (goal.at.After-loop-i b).In-End in
+    all_gathered b.loop-i.invariant.0
+    (still_quiet (text_statements a.limit a.text.now) (loop_at b).loop.end b.loop-i.i (omega (arith, b.loop-i-test.false)) w.quiet)
+
+-- What they bring.
+pub loop-k-init : goal.loop-k-init
+loop-k-init c = (none-brought _ _ _ _ _, (whole (goal.at.loop-k-init c).In-End).ahead, refl, refl, refl, omega arith)
+
+pub offset_bounds-forms-slot-in-loop-k : goal.offset_bounds-forms-slot-in-loop-k
+offset_bounds-forms-slot-in-loop-k c = omega (arith, c.slot-in-loop-k.ensures.0)
+
+pub bounds-forms-slot-in-loop-k : goal.bounds-forms-slot-in-loop-k
+bounds-forms-slot-in-loop-k c = omega (arith, c.slot-in-loop-k.ensures.0)
+
+within3 : (t : In-loop-k)
+    → let l = loop_at t in
+    let a = l.args in
+    (t.loop-k.k < l.loop.count) × (t.loop-k.k < length (text_statements a.limit a.text.now)) × (t.loop-k.k < 256)
+within3 t =
+    let w = whole (goal.at.In-loop-k t).In-End in
+    (t.loop-k-test.true, omega (arith, t.loop-k-test.true, w.many), omega (arith, t.loop-k-test.true, w.most))
+
+pub statement_at-again-requires-in-loop-k : goal.statement_at-again-requires-in-loop-k
+statement_at-again-requires-in-loop-k c =
+    let p = (start (loop_at c)).pre in
+    (p.0, p.1, p.2, λ x. ahead-few c.loop-k.invariant.1 (within3 (goal.at.statement_at-again-requires-in-loop-k c).In-loop-k).1 x)
+
+taken_here : (x : After-statement_at-again-in-loop-k)
+    → let a = (start (loop_at x)).args in
+    Here a.limit a.text.now (text_statements a.limit a.text.now) x.loop-k.k x.statement_at-again-in-loop-k.result
+taken_here x =
+    here (whole (goal.at.After-statement_at-again-in-loop-k x).In-End) x.loop-k.invariant.1 (within3 (goal.at.After-statement_at-again-in-loop-k x).In-loop-k).0 _ x.slot-in-loop-k.ensures.1 x.statement_at-again-in-loop-k.ensures
+
+pub bring_one-requires : goal.bring_one-requires
+bring_one-requires c =
+    let p = c.requires in
+    let g = c.loop-k.invariant.0 in
+    let h = (within3 (goal.at.bring_one-requires c).In-loop-k).2 in (
+      p.0,
+      p.1,
+      p.2,
+      stands (goal.at.bring_one-requires c).At-loop-i,
+      c.loop-i.inv.0.fit,
+      here-fits (whole (goal.at.bring_one-requires c).In-End).read (within3 (goal.at.bring_one-requires c).In-loop-k).1 (taken_here (goal.at.bring_one-requires c).After-statement_at-again-in-loop-k),
+      h,
+      omega (arith, g.few, h),
+      omega (arith, g.small, h),
+      omega (arith, g.stay, h),
+      omega (arith, g.noted, h),
+    )
+
+abbrev turn_at : After-bring_one → In-loop-k
+turn_at b = b
+
+abbrev next_at : After-later-1 → After-bring_one
+next_at c = c
+
+pub overflow_add-k : goal.overflow_add-k
+overflow_add-k c = omega (arith, (within3 (turn_at (next_at (goal.at.overflow_add-k c).After-later-1))).2)
+
+pub loop-k-smaller : goal.loop-k-smaller
+loop-k-smaller c = omega (arith, (turn_at (next_at (goal.at.loop-k-smaller c).After-later-1)).loop3-test.taken)
+
+pub loop-k-preserved : goal.loop-k-preserved
+unfolding BringAs PrintsAs
+loop-k-preserved c =
+    let b = next_at (goal.at.loop-k-preserved c).After-later-1 in
+    let a = b in
+    let h = subst (BringAs _ _ _ _ _ _ _) c.in-Next.is b.bring-one.ensures.0 in
+    let w = subst (PrintsAs _ _ _ _) c.in-Next.is b.bring-one.ensures.1 in
+    let i = (turn_at b).before.loop3.inv in (
+      one-brought i.0 _ (taken_here a).first h.brought h.adds (w h.what h.brought),
+      (taken_here a).ahead,
+      same-room (w h.what h.brought) ∙ i.2,
+      same-room h.adds.terms ∙ i.3,
+      same-room h.adds.dropped ∙ i.4,
+      omega (arith, (turn_at b).loop3-test.taken),
+    )
+
+abbrev refused_at : In-Refused-bring_one → After-bring_one
+refused_at c = c
+
+abbrev loop3_at : In-Refused-bring_one → At-loop-k
+loop3_at c = (turn_at (refused_at c)).before
+
+pub shape_of-lets-in-Refused-bring_one : goal.shape_of-lets-in-Refused-bring_one
+shape_of-lets-in-Refused-bring_one c = search (rules, (lets_at (loop3_at (goal.at.shape_of-lets-in-Refused-bring_one c).In-Refused-bring_one)).loop2.inv.2)
+
+pub shape_of-terms-in-Refused-bring_one : goal.shape_of-terms-in-Refused-bring_one
+shape_of-terms-in-Refused-bring_one c = search (rules, (loop3_at (goal.at.shape_of-terms-in-Refused-bring_one c).In-Refused-bring_one).loop3.invariant.3)
+
+pub shape_of-dropped-in-Refused-bring_one : goal.shape_of-dropped-in-Refused-bring_one
+shape_of-dropped-in-Refused-bring_one c = search (rules, (loop3_at (goal.at.shape_of-dropped-in-Refused-bring_one c).In-Refused-bring_one).loop3.invariant.4)
+
+pub shape_of-out-in-Refused-bring_one : goal.shape_of-out-in-Refused-bring_one
+shape_of-out-in-Refused-bring_one c = search (rules, (loop3_at (goal.at.shape_of-out-in-Refused-bring_one c).In-Refused-bring_one).loop3.invariant.2)
+
+pub returns-in-Refused-bring_one : goal.returns-in-Refused-bring_one
+unfolding TakenAs BringAs
+returns-in-Refused-bring_one c =
+    let b = refused_at (goal.at.returns-in-Refused-bring_one c).In-Refused-bring_one in
+    let q = loop3_at (goal.at.returns-in-Refused-bring_one c).In-Refused-bring_one in
+    let m = q in
+    let h = subst (BringAs _ _ _ _ _ _ _) c.in-Refused-bring_one.is b.bring-one.ensures.0 in
+    statement-refused (start (loop_at m)).args.limit _ _ _ (whole m).read (stands m).is (collected q.before)
+    (one-refused q.loop3.inv.0 _ (taken_here b).first c.in-Refused-bring_one.number h)
+
+pub shape_of-lets : goal.shape_of-lets
+shape_of-lets c = c.loop-i.inv.2
+
+pub shape_of-terms : goal.shape_of-terms
+shape_of-terms c = c.loop-k.invariant.3
+
+pub shape_of-dropped : goal.shape_of-dropped
+shape_of-dropped c = c.loop-k.invariant.4
+
+pub shape_of-out : goal.shape_of-out
+shape_of-out c = c.loop-k.invariant.2
+
+pub returns : goal.returns
+unfolding TakenAs
+returns c =
+    let a = c.args in
+    let w = whole (goal.at.returns c).In-End in
+    let g = c.loop-k.invariant.0 in
+    record {
+      handed = (stands (goal.at.returns c).At-loop-i).is;
+      statements = text_statements a.limit a.text.now;
+      read = w.read;
+      most = omega (arith, w.many, w.most);
+      run = c.loop-i.lets;
+      n = c.loop-i.n;
+      collected = collected (goal.at.returns c).After-loop-i;
+      brought =
+          record {
+            what = g.what;
+            brought = all-brought g (omega (arith, w.many, c.loop-k-test.false));
+            added = g.added;
+            small = omega (arith, g.small, c.loop-k.invariant.5, w.most);
+          };
+      text = g.text;
+    }

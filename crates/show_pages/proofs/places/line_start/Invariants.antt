@@ -1,0 +1,10 @@
+-- What the loop keeps, and what it counts down.
+use Prim.Native.Nat.{◌≤◌}
+use lib.ListN.{length}
+use Rattle.show_pages.proofs.places.line_start.Given as goal
+
+abbrev pub invariant-loop-at : goal.invariant-loop-at
+invariant-loop-at l = (l.at ≤ length l.text) × (l.at ≤ l.offset)
+
+abbrev pub decreases-loop-at : goal.decreases-loop-at
+decreases-loop-at l = l.at

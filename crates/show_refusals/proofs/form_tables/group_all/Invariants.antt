@@ -1,0 +1,11 @@
+-- What the loop keeps, and what it counts down.
+use Prim.Native.Nat.{◌-◌}
+use mathlib.Core.Path.{◌≡◌}
+use lib.ListN.{length}
+use Rattle.show_refusals.proofs.form_tables.group_all.Given as goal
+
+abbrev pub invariant-loop-i : goal.invariant-loop-i
+invariant-loop-i l = (length l.groups ≡ length l.initial.groups)
+
+abbrev pub decreases-loop-i : goal.decreases-loop-i
+decreases-loop-i l = l.terms.covariates - l.i

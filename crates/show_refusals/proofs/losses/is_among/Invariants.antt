@@ -1,0 +1,10 @@
+-- What the loop keeps, and what it counts down.
+use Prim.Native.Nat.{◌-◌}
+use lib.ListN.{length}
+use Rattle.show_refusals.proofs.losses.is_among.Given as goal
+
+abbrev pub invariant-loop-i : goal.invariant-loop-i
+invariant-loop-i l = Unit {0}
+
+abbrev pub decreases-loop-i : goal.decreases-loop-i
+decreases-loop-i l = length l.effects - l.i
