@@ -50,7 +50,7 @@ pub fn share<R, X, F: FnOnce(&[R]) -> X>(records: &mut [R], f: F) -> X
 }
 
 // A call whose work leaves its records packed at the start of a working buffer: what it is handed, the four functions that it consists of, and what
-// it says of them all.
+// it answers and leaves.
 pub trait PackedCall {
     // The types of the elements: of the three slices that are read, and of the output, the records and the notes.
     type First;
@@ -108,12 +108,10 @@ pub trait PackedCall {
 
     fn finish(work: &mut [u32])
         ensures { work.new ≡ finished work.old };
-
-    // What the work says gives what the call says.
-    ghost enough: { Enough unpack counted finished answer_of output_of records_of notes_of work_of says };
 }
 
-// Such a call: its work, then as many records stored as its word tells of, then the working buffer finished, and the word.
+// Such a call: its work, then as many records stored as its word tells of, then the working buffer finished, and the word. What the work says has to
+// be enough for what the call says.
 pub fn call<C: PackedCall>(
     a: &[C::First],
     b: &[C::Second],
@@ -124,6 +122,7 @@ pub fn call<C: PackedCall>(
     work: &mut [u32],
     limit: u32,
 ) -> u64
+    requires { Enough C.unpack C.counted C.finished C.answer_of C.output_of C.records_of C.notes_of C.work_of C.says }
     ensures told { result ≡ C.answer_of a.now b.now c.now output.old records.old notes.old work.old limit }
     ensures output_after { output.new ≡ C.output_of a.now b.now c.now output.old records.old notes.old work.old limit }
     ensures records_after { records.new ≡ C.records_of a.now b.now c.now output.old records.old notes.old work.old limit }
