@@ -91,7 +91,7 @@ covariate-found c =
     c.name_at-2.ensures
     ∙ rw c.covariates.ensures
     (ap (λ (l : List (List ℕ)). get_or l s.args.covariate [])
-    (sym (covariates-are s.args.block.now s.args.lists.now s.args.layout s.pre.2)))
+    (sym (covariates-are s.args.block.now s.args.lists.now s.args.layout s.requires.2)))
 
 -- What is left at the start, and behind each piece.
 at_start : (s : Start) → Left s s.args.out.now s.args.at (head s ++ from_parameter s)
@@ -144,33 +144,33 @@ put_all-one-requires c =
 pub put-comma-requires : goal.put-comma-requires
 put-comma-requires c =
     let s = parameter-start (goal.at.put-comma-requires c).After-put_all-one in
-    room-first (bytes ",") (from_covariate s) s.pre.5 (behind-parameter (goal.at.put-comma-requires c).After-put_all-one)
+    room-first (bytes ",") (from_covariate s) s.requires.5 (behind-parameter (goal.at.put-comma-requires c).After-put_all-one)
 
 pub name_at-requires-2 : goal.name_at-requires-2
 name_at-requires-2 c =
     let s = comma-start (goal.at.name_at-requires-2 c).After-put-comma in
-    rw c.covariates.ensures (s.pre.4, covariates_sound s.args.block.now s.args.lists.now s.args.layout s.pre.2)
+    rw c.covariates.ensures (s.requires.4, covariates_sound s.args.block.now s.args.lists.now s.args.layout s.requires.2)
 
 pub put_all-two-requires : goal.put_all-two-requires
 put_all-two-requires c =
     let s = comma-start (goal.at.put_all-two-requires c).After-put-comma in
-    room-same _ (sym (covariate-found (goal.at.put_all-two-requires c).After-name_at-2)) (room-first (covariate s) (bytes "," ++ from_effects s) s.pre.5 (behind-comma (goal.at.put_all-two-requires c).After-put-comma))
+    room-same _ (sym (covariate-found (goal.at.put_all-two-requires c).After-name_at-2)) (room-first (covariate s) (bytes "," ++ from_effects s) s.requires.5 (behind-comma (goal.at.put_all-two-requires c).After-put-comma))
 
 pub put-again-requires : goal.put-again-requires
 put-again-requires c =
     let s = covariate-start (goal.at.put-again-requires c).After-put_all-two in
-    room-first (bytes ",") (from_effects s) s.pre.5 (behind-covariate (goal.at.put-again-requires c).After-put_all-two)
+    room-first (bytes ",") (from_effects s) s.requires.5 (behind-covariate (goal.at.put-again-requires c).After-put_all-two)
 
 pub put_modes-three-requires : goal.put_modes-three-requires
 unfolding modes_in
 put_modes-three-requires c =
     let s = comma-start_2 (goal.at.put_modes-three-requires c).After-put-again in
-    (s.pre.0, room-first (effects s) (from_sign s) s.pre.5 (behind-comma_2 (goal.at.put_modes-three-requires c).After-put-again))
+    (s.requires.0, room-first (effects s) (from_sign s) s.requires.5 (behind-comma_2 (goal.at.put_modes-three-requires c).After-put-again))
 
 pub put_sign-four-requires : goal.put_sign-four-requires
 put_sign-four-requires c =
     let s = effects-start (goal.at.put_sign-four-requires c).After-put_modes-three in
-    room-first (sign_bytes s.args.operator) (bytes ")") s.pre.5 (behind-effects (goal.at.put_sign-four-requires c).After-put_modes-three)
+    room-first (sign_bytes s.args.operator) (bytes ")") s.requires.5 (behind-effects (goal.at.put_sign-four-requires c).After-put_modes-three)
 
 pub put-requires : goal.put-requires
 put-requires c =

@@ -15,7 +15,7 @@ module _ (c : tie.After-shared-slice-known3) {x : Named} (e : c.before.before.be
   start = c.before.before.before
 
   fits_so : let a = start.args in NamedFits a.text.now a.block.now x
-  fits_so = let a = start.args in subst (NamedFits a.text.now a.block.now) e start.pre.1
+  fits_so = let a = start.args in subst (NamedFits a.text.now a.block.now) e start.requires.1
 
   -- what is answered of a word is answered of the name that is spelled so
   spelled_so : (ws : List (List ℕ)) (r : Placed)
