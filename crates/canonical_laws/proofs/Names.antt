@@ -2,7 +2,7 @@
 -- Assumes nothing.
 use Prim.Native.Nat.{ℕ}
 use mathlib.Core.Path.{◌≡◌, refl, ap}
-use mathlib.Core.Bool.{Bool, true, false, cond, false≢true, or_false, ◌||◌}
+use mathlib.Core.Bool.{Bool, true, false, cond, false≢true, or-false, ◌||◌}
 use mathlib.Core.List.{List, [], ◌∷◌, map}
 use Rattle.tokens.specs.Token.{word, number}
 use Rattle.tokens.specs.Spelling.{is_word, is_number}
@@ -34,7 +34,7 @@ name-entry n e = go (is_number n.spelling) refl e
         → (is_word n.spelling || t) ≡ true
         → Entry (cond t (number n.spelling) (word n.spelling)) (item_as (cond t a_number a_word) 0 n.spelling)
     go true h e = number_entry h
-    go false h e = word_entry (rw or_false at e)
+    go false h e = word_entry (rw or-false at e)
 
 -- a name that is known to be a word, or a number
 kind-entry : (k : Kind) (n : Name) → spelled_as k n ≡ true → Entry (name_shape n) (item_as k 0 n.spelling)

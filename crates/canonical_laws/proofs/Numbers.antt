@@ -82,7 +82,7 @@ use Rattle.reading_laws.specs.WellFormed.{
   well_part,
   well_formed,
 }
-use Rattle.reading_laws.specs.Spelled.{item_names, operand_names, part_names, parts_names, statement_names, text_names, StandIn, no_name, one_before}
+use Rattle.reading_laws.specs.Spelled.{end_of, item_names, operand_names, part_names, parts_names, statement_names, text_names, StandIn, no_name, one_before}
 use Rattle.text.proofs.Passing.{all_append, all_weaker}
 use Rattle.reading_laws.proofs.Places.{few-places}
 use Rattle.reading_laws.proofs.Parts.{few_labels, parts_well}
@@ -267,10 +267,10 @@ module _ (limit : ℕ) where
 
     small-values : {o : ℕ} (is : List Item) → StandIn text o (item_names is) → all is_small (items_numbers is) ≡ true
     small-values [] h = refl
-    small-values (i ∷ is) (one_before l s r) =
+    small-values {o = o} (i ∷ is) (one_before l s r) =
         both (kind-small i.kind)
         (both (le-leb i.name.place 4294967295 (omega (arith, s.within)))
-        (both (le-leb (length i.name.spelling) 4294967295 (omega (arith, s.within))) (small-values is r)))
+        (both (le-leb (length i.name.spelling) 4294967295 (omega (arith, s.within))) (small-values {o = end_of i.name} is r)))
       where
         kind-small : (k : Kind) → is_small (kind_number k) ≡ true
         kind-small a_word = refl

@@ -3,7 +3,7 @@
 use Prim.Native.Nat.{ℕ}
 use Prim.Native.Char.{Char, code}
 use mathlib.Core.Path.{◌≡◌, refl}
-use mathlib.Core.Bool.{true, or_true, ◌||◌}
+use mathlib.Core.Bool.{true, or-true, ◌||◌}
 use mathlib.Core.List.{List, [], ◌∷◌, ◌++◌}
 use Rattle.tokens.specs.Token.{Shape, mark}
 use Rattle.tokens.specs.Spelling.{is_shape, is_mark, apart}
@@ -32,7 +32,7 @@ mark-before m (y ∷ ys) e = e
 
 apart-mark : (xs : List Shape) (m : ℕ) (ys : List Shape) → apart xs ≡ true → apart ys ≡ true → apart (xs ++ mark m ∷ ys) ≡ true
 apart-mark [] m ys e f = mark-before m ys f
-apart-mark (x ∷ []) m ys e f = both (or_true (is_mark x)) (mark-before m ys f)
+apart-mark (x ∷ []) m ys e f = both (or-true (is_mark x)) (mark-before m ys f)
 apart-mark (x ∷ z ∷ zs) m ys e f =
     both (and_left (is_mark x || is_mark z) (apart (z ∷ zs)) e)
     (apart-mark (z ∷ zs) m ys (and_right (is_mark x || is_mark z) (apart (z ∷ zs)) e) f)

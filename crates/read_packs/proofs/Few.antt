@@ -3,7 +3,7 @@
 use mathlib.Core.Path.{◌≡◌, refl, ◌∙◌, ap, sym}
 use mathlib.Core.Bool.{Bool, true, false, not, cond, ◌&&◌, ◌||◌, false≢true}
 use mathlib.Core.List.{List, [], ◌∷◌, ◌++◌}
-use Prim.Native.Nat.{ℕ, zero, suc, ◌+◌, ◌≤◌, ◌<◌}
+use Prim.Native.Nat.{ℕ, zero, suc, ◌≤◌, ◌<◌}
 use native.Mathlib.Omega.{arith}
 use borrow.Author.Tests.{eq-eqb, ne_eqb, eqb-true, eqb-false, ltb-true, lt-ltb}
 use lib.Dec.{eqb, ltb}
@@ -13,7 +13,7 @@ use Rattle.text.specs.Lists.{all}
 use Rattle.text.proofs.Tests.{and_left, and_right}
 use Rattle.reading.specs.Argument.{without, firsts}
 use Rattle.reading_laws.specs.WellFormed.{none_twice}
-use Rattle.reading_laws.proofs.Places.{both, without_all, without_twice}
+use Rattle.reading_laws.proofs.Places.{both, without_twice}
 use Rattle.read_packs.specs.Packs.{with_mode}
 
 -- the last of a list, left out or kept

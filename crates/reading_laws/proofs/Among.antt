@@ -27,7 +27,7 @@ module _ {A : Type 0} where
 
   pub among_trans : {xs ys zs : List A} → Among xs ys → Among ys zs → Among xs zs
   among_trans g none = g
-  among_trans (kept g) (kept h) = kept (among_trans g h)
+  among_trans (kept {x = x} {xs = xs} g) (kept {xs = xs'} {ys = ys} h) = kept (among_trans {xs = xs} g h)
   among_trans (dropped g) (kept h) = dropped (among_trans g h)
   among_trans g (dropped h) = dropped (among_trans g h)
 

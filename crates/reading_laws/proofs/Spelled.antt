@@ -39,7 +39,7 @@ module _ {text : List ℕ} where
 
   pub stand_some : {o : ℕ} {ms ns : List Name} → Among ms ns → StandIn text o ns → StandIn text o ms
   stand_some none h = no_name
-  stand_some (kept g) (one_before l s r) = one_before l s (stand_some g r)
+  stand_some {o = o} (kept {x = x} {xs = xs} {ys = ys} g) (one_before l s r) = one_before l s (stand_some {o = end_of x} g r)
   stand_some (dropped g) (one_before l s r) = stand_sooner (omega (arith, l)) (stand_some g r)
 
 -- Reading.

@@ -3,7 +3,7 @@
 use Prim.Native.Nat.{ℕ, suc, ◌≤◌}
 use native.Mathlib.Omega.{arith}
 use mathlib.Core.Path.{◌≡◌, refl, ap}
-use mathlib.Core.Bool.{Bool, true, or_true}
+use mathlib.Core.Bool.{Bool, true, or-true}
 use mathlib.Core.List.{List, [], ◌∷◌, map}
 use borrow.Author.Tests.{leb-true, lt-ltb, le-leb}
 use lib.Dec.{leb}
@@ -26,7 +26,7 @@ use Rattle.reading_laws.proofs.Places.{places_well}
 -- a name of a kind is a name
 pub item-named : (k : Kind) (n : Name) → spelled_as k n ≡ true → well_named n ≡ true
 item-named a_word n e = simp e
-item-named a_number n e = simp (e, or_true)
+item-named a_number n e = simp (e, or-true)
 
 items_named : (is : List Item) → all well_item is ≡ true → all well_named (map (λ x. x.name) is) ≡ true
 items_named [] e = refl

@@ -1,7 +1,7 @@
 -- All bytes together are one word or one number: the first token of the text ends with it.
 -- Assumes nothing.
 use mathlib.Core.Path.{◌≡◌, refl, ◌∙◌, ap, sym}
-use mathlib.Core.Bool.{Bool, true, false, cond, ◌&&◌, or_false}
+use mathlib.Core.Bool.{Bool, true, false, cond, ◌&&◌, or-false}
 use mathlib.Core.List.{List, [], ◌∷◌}
 use Prim.Native.Nat.{ℕ, suc, ◌<◌, ◌≤◌}
 use native.Mathlib.Nat.{zero-add}
@@ -54,7 +54,7 @@ module _ (b : ℕ) (bs : List ℕ) where
       ∙ ap suc (length-take-le (number_rest bs) bs (number-most bs))
 
   word-is : class_number b ≡ 9 → is_name (b ∷ bs) ≡ every in_word bs
-  word-is e = simp (e, or_false)
+  word-is e = simp (e, or-false)
 
   number_is : class_number b ≡ 8 → is_name (b ∷ bs) ≡ eqb (number_rest bs) (length bs)
   number_is e = simp e

@@ -1,7 +1,7 @@
 -- LETs in a run of numbers: one more behind the others, the last of a key, and what a symbol stands for by it.
 -- Assumes nothing.
 use mathlib.Core.Path.{◌≡◌, refl, ◌∙◌, ap, ap₂, sym, subst}
-use mathlib.Core.Bool.{Bool, true, false, cond, ◌||◌, or_false}
+use mathlib.Core.Bool.{Bool, true, false, cond, ◌||◌, or-false}
 use mathlib.Core.List.{List, [], ◌∷◌, ◌++◌, map}
 use mathlib.Core.Option.{Option, some, none}
 use Prim.Native.Nat.{ℕ, zero, suc, ◌+◌, ◌*◌, ◌-◌, ◌≤◌, ◌<◌}
@@ -84,7 +84,7 @@ module _ (s l w : List ℕ) where
           always : (a : Bool) → a || true ≡ true
           always true = refl
           always false = refl
-      by_test false h = or_false (has_key (definitions_in s l n) w) ∙ h
+      by_test false h = or-false (has_key (definitions_in s l n) w) ∙ h
 
   pub has_none : (n : ℕ) → last_let s l n w ≡ none → false ≡ has_key (definitions_in s l n) w
   has_none n e = sym (has_last n ∙ ap is_there e)

@@ -1,7 +1,7 @@
 -- Tests joined by `|`, from the left, as a list of words is tested.
 -- Assumes nothing.
 use mathlib.Core.Path.{◌≡◌, refl, sym, ◌∙◌, ap}
-use mathlib.Core.Bool.{Bool, true, false, ◌||◌, or_false}
+use mathlib.Core.Bool.{Bool, true, false, ◌||◌, or-false}
 use mathlib.Core.List.{List, [], ◌∷◌, map}
 use Rattle.text.specs.Lists.{any}
 
@@ -19,7 +19,7 @@ regroup false b c = refl
 
 module _ {A : Type 0} (p : A → Bool) where
   joined-any : (t : Bool) (xs : List A) → joined_to t (map p xs) ≡ t || any p xs
-  joined-any t [] = sym (or_false t)
+  joined-any t [] = sym (or-false t)
   joined-any t (x ∷ xs) = joined-any (t || p x) xs ∙ regroup t (p x) (any p xs)
 
   pub any_of : (xs : List A) (ts : List Bool) → ts ≡ map p xs → joined ts ≡ any p xs

@@ -146,7 +146,7 @@ module _ (c : Context) (w : Effect → Bool) where
       k.1)
       (all_both (none-all (λ e. any (forces_with e) (remains w d)) r h) (across r hs))
 
-  flip : {l m : List Effect} → All (λ e. All (Agree e) m) l → All (λ f. All (Agree f) l) m
+  flip : {m l : List Effect} → All (λ e. All (Agree e) m) l → All (λ f. All (Agree f) l) m
   flip {m} finished = all_of (λ f. finished) m
   flip (also {x = e} h hs) =
       all_weaker

@@ -77,7 +77,7 @@ overflow_add-n c =
     let s = c.args.text.now in
     let p = c.args.bracket in
     let o = c.args.cur.at in
-    let f = subst (EntryFurther s c.loop-c.from.at _) c.in-More.is c.read_entry.ensures.entry_further.0 in
+    let f = subst (EntryFurther s c.loop-c.from.at _) c.in-More.is c.read_entry.ensures.entry_further in
     omega (arith, f.0, f.1, c.loop-c.invariant.few)
 
 pub loop-c-smaller : goal.loop-c-smaller
@@ -86,7 +86,7 @@ loop-c-smaller c =
     let s = c.args.text.now in
     let p = c.args.bracket in
     let o = c.args.cur.at in
-    let f = subst (EntryFurther s c.loop-c.from.at _) c.in-More.is c.read_entry.ensures.entry_further.0 in
+    let f = subst (EntryFurther s c.loop-c.from.at _) c.in-More.is c.read_entry.ensures.entry_further in
     omega (arith, f.0, f.1)
 
 pub loop-c-preserved : goal.loop-c-preserved
@@ -95,8 +95,8 @@ loop-c-preserved c =
     let s = c.args.text.now in
     let p = c.args.bracket in
     let o = c.args.cur.at in
-    let f = subst (EntryFurther s c.loop-c.from.at _) c.in-More.is c.read_entry.ensures.entry_further.0 in
-    let e = subst (EntryListed s c.loop-c.from.at c.loop-c.n) c.in-More.is c.read_entry.ensures.entry_further.1 in
+    let f = subst (EntryFurther s c.loop-c.from.at _) c.in-More.is c.read_entry.ensures.entry_further in
+    let e = subst (EntryListed s c.loop-c.from.at c.loop-c.n) c.in-More.is c.read_entry.ensures.entry_listed in
     let g = c.loop-c.invariant in
     let n = c.loop-c.n in
     let cur = c.loop-c.from.at in
@@ -121,7 +121,7 @@ overflow_add-count c =
     let s = c.args.text.now in
     let p = c.args.bracket in
     let o = c.args.cur.at in
-    let f = subst (EntryFurther s c.loop-c.from.at _) c.in-Done.is c.read_entry.ensures.entry_further.0 in
+    let f = subst (EntryFurther s c.loop-c.from.at _) c.in-Done.is c.read_entry.ensures.entry_further in
     omega (arith, f.0, f.1, c.loop-c.invariant.few)
 
 pub returns-in-Done : goal.returns-in-Done
@@ -130,8 +130,8 @@ returns-in-Done c =
     let s = c.args.text.now in
     let p = c.args.bracket in
     let o = c.args.cur.at in
-    let f = subst (EntryFurther s c.loop-c.from.at _) c.in-Done.is c.read_entry.ensures.entry_further.0 in
-    let e = subst (EntryListed s c.loop-c.from.at c.loop-c.n) c.in-Done.is c.read_entry.ensures.entry_further.1 in
+    let f = subst (EntryFurther s c.loop-c.from.at _) c.in-Done.is c.read_entry.ensures.entry_further in
+    let e = subst (EntryListed s c.loop-c.from.at c.loop-c.n) c.in-Done.is c.read_entry.ensures.entry_listed in
     let g = c.loop-c.invariant in
     let n = c.loop-c.n in
     let cur = c.loop-c.from.at in

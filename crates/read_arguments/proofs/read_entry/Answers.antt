@@ -23,29 +23,28 @@ stands d = entry_at (here (goal.at.Else-token-gt-NUMBER d).After-token-token) d.
 
 pub returns-then-token-gt-NUMBER : goal.returns-then-token-gt-NUMBER
 unfolding turn entry_then EntryFurther EntryListed
-returns-then-token-gt-NUMBER c = (
-  (λ limit call p items l.
+returns-then-token-gt-NUMBER c = record {
+  by_index = (λ limit call p items l.
       rejected limit _ (item call p items) _ c.token-token.result (here (goal.at.returns-then-token-gt-NUMBER c).After-token-token) (λ w e. absurd (omega (arith, c.if-token-gt-NUMBER.true)))
       (λ w e. absurd (omega (arith, c.if-token-gt-NUMBER.true))) (λ h. refl)
-      ∙ ap refused_by (sym c.unexpected.ensures)),
-  (tt, tt),
-)
+      ∙ ap refused_by (sym c.unexpected.ensures));
+  entry_further = tt;
+  entry_listed = tt;
+}
 
 pub returns-then-count-ge64 : goal.returns-then-count-ge64
 unfolding entry_then EntryFurther EntryListed
-returns-then-count-ge64 c = ((λ limit call p items l. one-too_many (stands (goal.at.returns-then-count-ge64 c).Else-token-gt-NUMBER) limit call p items (omega (arith, l, c.if-count-ge64.true))), (tt, tt))
+returns-then-count-ge64 c = record { by_index = (λ limit call p items l. one-too_many (stands (goal.at.returns-then-count-ge64 c).Else-token-gt-NUMBER) limit call p items (omega (arith, l, c.if-count-ge64.true))); entry_further = tt; entry_listed = tt }
 
 pub returns : goal.returns
 returns c =
     let s = c.args.text.now in
-    let o = c.args.cur.at in (
-      (λ limit call p items l.
+    let o = c.args.cur.at in record {
+      by_index = (λ limit call p items l.
           taken (stands (goal.at.returns c).Else-token-gt-NUMBER) limit call p items (omega (arith, l, c.if-count-ge64.false))
-          ∙ c.after_entry.ensures.by_index limit call p (items ++ entries 1 (tokens_from s o))),
-      (
-        entry-further (stands (goal.at.returns c).Else-token-gt-NUMBER) (after_entries 1 (tokens_from s o)) c.after_entry.result
+          ∙ c.after_entry.ensures.by_index limit call p (items ++ entries 1 (tokens_from s o)));
+      entry_further = entry-further (stands (goal.at.returns c).Else-token-gt-NUMBER) (after_entries 1 (tokens_from s o)) c.after_entry.result
             (subst (λ (ts : Tokens). EntryFurther s c.token-token.result.next.at ts c.after_entry.result) (sym (behind (stands (goal.at.returns c).Else-token-gt-NUMBER)))
-            c.after_entry.ensures.entry_further),
-        entry_listed (stands (goal.at.returns c).Else-token-gt-NUMBER) _ c.after_entry.result c.if-count-ge64.false,
-      ),
-    )
+            c.after_entry.ensures.entry_further);
+      entry_listed = entry_listed (stands (goal.at.returns c).Else-token-gt-NUMBER) _ c.after_entry.result c.if-count-ge64.false;
+    }

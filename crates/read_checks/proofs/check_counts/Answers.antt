@@ -19,7 +19,7 @@ returns-then-is_word c =
     let a = c.args in
     rw (items_are _ _ c.requires.1, c.wrong.ensures)
     (left-refused c.loop-left.invariant c.loop-left-test.true c.entry_at-entry.ensures _
-    (count_word a.limit a.at a.text.now c.entry_at-entry.result (sym c.is_IsWord.ensures ∙ c.if-is_word.true)))
+    (count_word a.limit a.at a.text.now c.entry_at-entry.result (sym c.is_word.ensures ∙ c.if-is_word.true)))
 
 pub count_at-requires : goal.count_at-requires
 count_at-requires c = c.entry_at-entry.ensures.inside
@@ -29,7 +29,7 @@ returns-in-Refused c =
     let a = c.args in
     rw (items_are _ _ c.requires.1)
     (left-refused c.loop-left.invariant c.loop-left-test.true c.entry_at-entry.ensures _
-    (count-refused a.limit a.at a.text.now c.entry_at-entry.result (sym c.is_IsWord.ensures ∙ c.if-is_word.false)
+    (count-refused a.limit a.at a.text.now c.entry_at-entry.result (sym c.is_word.ensures ∙ c.if-is_word.false)
     (sym c.in-Refused.is ∙ c.count_at.ensures)))
 
 pub loop-left-preserved : goal.loop-left-preserved
@@ -37,7 +37,7 @@ loop-left-preserved c =
     let a = c.args in
     rw c.after_entry-cur.ensures
     (left-next c.loop-left.invariant c.loop-left-test.true c.entry_at-entry.ensures
-    (count_fine a.limit a.at a.text.now c.entry_at-entry.result _ (sym c.is_IsWord.ensures ∙ c.if-is_word.false)
+    (count_fine a.limit a.at a.text.now c.entry_at-entry.result _ (sym c.is_word.ensures ∙ c.if-is_word.false)
     (sym c.in-Count.is ∙ c.count_at.ensures)))
 
 pub returns : goal.returns

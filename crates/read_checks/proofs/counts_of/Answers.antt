@@ -1,4 +1,5 @@
 -- `read_checks::counts_of` meets its contract: a number, a range, an array, or what is refused at its place. Assumes nothing.
+use borrow.Enum.Refused.{opened}
 use mathlib.Core.Path.{sym}
 use Rattle.reading.specs.Argument.{counts_of}
 use Rattle.read_forms.specs.Forms.{arg_in, counts_in}
@@ -29,4 +30,4 @@ returns-in-Array c = rw c.in-Array.is c.listed_counts.ensures
 
 pub returns-in_default : goal.returns-in_default
 unfolding counts_as
-returns-in_default c = rw (c.wrong.ensures, c.place_of.ensures c.args.text.now) (sym (no_counts _ _ _ c.in_default.in_default-own.keys4))
+returns-in_default c = rw (c.wrong.ensures, c.place_of.ensures c.args.text.now) (sym (no_counts _ _ _ (opened c.in_default.in_default-own.keys4)))

@@ -1,4 +1,5 @@
 -- `read_checks::items_of` meets its contract: a list that is not empty, or what is refused at its place. Assumes nothing.
+use borrow.Enum.Refused.{opened}
 use mathlib.Core.Path.{sym}
 use Rattle.reading.specs.Argument.{items_of}
 use Rattle.read_forms.specs.Items.{entries}
@@ -29,4 +30,4 @@ returns-else-items-eq0 c = λ s h. rw (c.in-Array.is, items_array (listed_some s
 
 pub returns-in_default : goal.returns-in_default
 unfolding items_as
-returns-in_default c = λ s h. rw (c.wrong-in_default.ensures, c.place_of.ensures s) (sym (no-values s _ c.in_default.in_default-own.keys4))
+returns-in_default c = λ s h. rw (c.wrong-in_default.ensures, c.place_of.ensures s) (sym (no-values s _ (opened c.in_default.in_default-own.keys4)))

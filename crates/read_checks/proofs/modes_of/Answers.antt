@@ -1,4 +1,5 @@
 -- `read_checks::modes_of` meets its contract: `*`, a word, an array, or what is refused at its place. Assumes nothing.
+use borrow.Enum.Refused.{opened}
 use mathlib.Core.Path.{sym}
 use mathlib.Core.Path.{◌∙◌}
 use Rattle.reading.specs.Argument.{modes_of}
@@ -41,4 +42,4 @@ returns-else-items-eq0 c =
 
 pub returns-in_default : goal.returns-in_default
 unfolding modes_as
-returns-in_default c = rw (c.wrong-in_default.ensures, c.place_of.ensures c.args.text.now) (sym (no_modes _ _ _ c.in_default.in_default-own.keys4))
+returns-in_default c = rw (c.wrong-in_default.ensures, c.place_of.ensures c.args.text.now) (sym (no_modes _ _ _ (opened c.in_default.in_default-own.keys4)))

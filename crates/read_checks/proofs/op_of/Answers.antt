@@ -1,4 +1,5 @@
 -- `read_checks::op_of` meets its contract: `*`, `+`, or what is refused at its place. Assumes nothing.
+use borrow.Enum.Refused.{opened}
 use mathlib.Core.Path.{sym}
 use Rattle.reading.specs.Feature.{operator_of}
 use Rattle.read_forms.specs.Forms.{arg_in}
@@ -16,4 +17,4 @@ returns-in-Plus c = λ s. rw c.in-Plus.is
 
 pub returns-in_default : goal.returns-in_default
 unfolding op_read_as
-returns-in_default c = λ s. rw (c.wrong.ensures, c.place_of.ensures s) (sym (no_operator s _ c.in_default.in_default-own.keys3))
+returns-in_default c = λ s. rw (c.wrong.ensures, c.place_of.ensures s) (sym (no_operator s _ (opened c.in_default.in_default-own.keys3)))

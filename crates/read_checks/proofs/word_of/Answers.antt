@@ -1,4 +1,5 @@
 -- `read_checks::word_of` meets its contract: a word, or what is refused at its place. Assumes nothing.
+use borrow.Enum.Refused.{opened}
 use mathlib.Core.Path.{sym}
 use Rattle.reading.specs.Feature.{name_of}
 use Rattle.read_forms.specs.Forms.{arg_in}
@@ -12,4 +13,4 @@ returns-in-Word c = λ s. rw c.in-Word.is
 
 pub returns-in_default : goal.returns-in_default
 unfolding name_as
-returns-in_default c = λ s. rw (c.wrong.ensures, c.place_of.ensures s) (sym (no_word s _ c.in_default.in_default-own.keys2))
+returns-in_default c = λ s. rw (c.wrong.ensures, c.place_of.ensures s) (sym (no_word s _ (opened c.in_default.in_default-own.keys2)))

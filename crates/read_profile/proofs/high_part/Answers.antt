@@ -1,4 +1,5 @@
 -- `read_profile::high_part` meets its contract: counts, or what has none. Assumes nothing.
+use borrow.Enum.Refused.{opened}
 use mathlib.Core.Path.{◌∙◌, ap, sym, subst}
 use Rattle.read_parts.specs.Meaning.{PartFits}
 use Rattle.read_profile.specs.Answers.{high_part}
@@ -14,4 +15,4 @@ returns-in-Counts c =
     c.high_counts.ensures ∙ sym (ap (high_part c.args.text.now) c.in-Counts.is)
 
 pub returns-in_default : goal.returns-in_default
-returns-in_default c = no_counts c.args.text.now c.args.part c.in_default.in_default-own.keys2
+returns-in_default c = no_counts c.args.text.now c.args.part (opened c.in_default.in_default-own.keys2)

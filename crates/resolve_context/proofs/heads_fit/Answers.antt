@@ -32,7 +32,7 @@ returns-then-lists-gt64-5 c = simp (lt-leb _ 64 c.if-lists-gt64-5.true, and-fals
 
 pub returns-then-not-mark_fits : goal.returns-then-not-mark_fits
 unfolding heads_fit
-returns-then-not-mark_fits c = simp (sym c.mark_fits.ensures ∙ not-true _ c.if-not-mark_fits.true, and-false)
+returns-then-not-mark_fits c = simp (sym c.mark_fits.ensures ∙ c.if-not-mark_fits.true, and-false)
 
 pub returns : goal.returns
 returns c =
@@ -48,4 +48,4 @@ returns c =
       declared = c.if-lists-gt64-4.false;
       columns = c.if-lists-gt64-5.false;
     })
-    (sym c.mark_fits.ensures ∙ not-false _ c.if-not-mark_fits.false))
+    (sym c.mark_fits.ensures ∙ c.if-not-mark_fits.false))

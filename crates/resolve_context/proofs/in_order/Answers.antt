@@ -44,7 +44,7 @@ ends : (c : Else-offset-end)
     → Within c.args.block.now c.args.lists.now c.loop-left.at
 ends c =
     let a = c.args in
-    let is = sym c.is_entry.ensures ∙ not-false _ c.if-not-is_entry.false in
+    let is = sym c.is_entry.ensures ∙ c.if-not-is_entry.false in
     within a.block.now a.lists.now c.loop-left.at is
 
 pub loop-left-init : goal.loop-left-init
@@ -76,7 +76,7 @@ is_entry-requires c = c.requires.0
 
 pub returns-then-not-is_entry : goal.returns-then-not-is_entry
 returns-then-not-is_entry c =
-    sym (turned (goal.at.returns-then-not-is_entry c).In-loop-left ∙ simp (sym c.is_entry.ensures ∙ not-true _ c.if-not-is_entry.true))
+    sym (turned (goal.at.returns-then-not-is_entry c).In-loop-left ∙ simp (sym c.is_entry.ensures ∙ c.if-not-is_entry.true))
 
 pub returns-then-offset-end : goal.returns-then-offset-end
 returns-then-offset-end c =
@@ -90,7 +90,7 @@ overflow_add-at c = omega (arith, room (goal.at.overflow_add-at c).In-loop-left)
 
 pub loop-left-preserved : goal.loop-left-preserved
 loop-left-preserved c =
-    let is = sym c.is_entry.ensures ∙ not-false _ c.if-not-is_entry.false in
+    let is = sym c.is_entry.ensures ∙ c.if-not-is_entry.false in
     (omega (arith, room (goal.at.loop-left-preserved c).In-loop-left), sym (turned (goal.at.loop-left-preserved c).In-loop-left ∙ simp (is, le-leb _ _ c.if-offset-end.false)))
 
 pub returns : goal.returns

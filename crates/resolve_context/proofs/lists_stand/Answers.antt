@@ -13,16 +13,16 @@ use Rattle.resolve_context.proofs.lists_stand.Goals.{After-in_order, After-in_or
 use Rattle.resolve_context.proofs.lists_stand.Goals as goal
 
 abbrev second : After-in_order-2 → Start
-second c = c
+second c = (goal.at.After-in_order-2 c).Start
 
 abbrev third : After-in_order-3 → Start
-third c = second (goal.at.After-in_order-3 c).After-in_order-2
+third c = (goal.at.After-in_order-3 c).Start
 
 abbrev fourth : After-in_order-4 → Start
-fourth c = third (goal.at.After-in_order-4 c).After-in_order-3
+fourth c = (goal.at.After-in_order-4 c).Start
 
 abbrev fifth : After-in_order-5 → Start
-fifth c = fourth (goal.at.After-in_order-5 c).After-in_order-4
+fifth c = (goal.at.After-in_order-5 c).Start
 
 -- a list of the layout that is handed over is that of the run
 module _ (s : Start) where
@@ -63,13 +63,13 @@ pub in_order-requires : goal.in_order-requires
 in_order-requires c = (c.requires.0, in_run (goal.at.in_order-requires c).Start (λ y. y.parameters) (parameters_in _ c.requires.3))
 
 pub returns-then-not-in_order : goal.returns-then-not-in_order
-returns-then-not-in_order c = sym (parameters_amiss _ _ (sym (parameters-told (goal.at.returns-then-not-in_order c).After-in_order) ∙ not-true _ c.if-not-in_order.true))
+returns-then-not-in_order c = sym (parameters_amiss _ _ (sym (parameters-told (goal.at.returns-then-not-in_order c).After-in_order) ∙ c.if-not-in_order.true))
 
 pub in_order-requires-2 : goal.in_order-requires-2
 in_order-requires-2 c = (c.requires.0, in_run (goal.at.in_order-requires-2 c).Start (λ y. y.iiv) (iiv_in _ c.requires.3))
 
 pub returns-then-not-in_order-2 : goal.returns-then-not-in_order-2
-returns-then-not-in_order-2 c = sym (iiv_amiss _ _ (sym (iiv-told (goal.at.returns-then-not-in_order-2 c).After-in_order-2) ∙ not-true _ c.if-not-in_order-2.true))
+returns-then-not-in_order-2 c = sym (iiv_amiss _ _ (sym (iiv-told (goal.at.returns-then-not-in_order-2 c).After-in_order-2) ∙ c.if-not-in_order-2.true))
 
 pub both_of-requires : goal.both_of-requires
 unfolding layout_of
@@ -83,19 +83,19 @@ in_order-requires-3 c =
     (s.pre.0, subst (InRun s.args.lists.now) (sym c.both_of.ensures) (in_run s (λ y. both_of y.template) (both_in _ s.pre.3)))
 
 pub returns-then-not-in_order-3 : goal.returns-then-not-in_order-3
-returns-then-not-in_order-3 c = sym (template_amiss _ _ (sym (template-told (goal.at.returns-then-not-in_order-3 c).After-in_order-3) ∙ not-true _ c.if-not-in_order-3.true))
+returns-then-not-in_order-3 c = sym (template_amiss _ _ (sym (template-told (goal.at.returns-then-not-in_order-3 c).After-in_order-3) ∙ c.if-not-in_order-3.true))
 
 pub in_order-requires-4 : goal.in_order-requires-4
 in_order-requires-4 c = let s = third (goal.at.in_order-requires-4 c).After-in_order-3 in (s.pre.0, in_run s (λ y. y.declared) (declared_in _ s.pre.3))
 
 pub returns-then-not-in_order-4 : goal.returns-then-not-in_order-4
-returns-then-not-in_order-4 c = sym (declared_amiss _ _ (sym (declared-told (goal.at.returns-then-not-in_order-4 c).After-in_order-4) ∙ not-true _ c.if-not-in_order-4.true))
+returns-then-not-in_order-4 c = sym (declared_amiss _ _ (sym (declared-told (goal.at.returns-then-not-in_order-4 c).After-in_order-4) ∙ c.if-not-in_order-4.true))
 
 pub in_order-requires-5 : goal.in_order-requires-5
 in_order-requires-5 c = let s = fourth (goal.at.in_order-requires-5 c).After-in_order-4 in (s.pre.0, in_run s (λ y. y.columns) (columns_in _ s.pre.3))
 
 pub returns-then-not-in_order-5 : goal.returns-then-not-in_order-5
-returns-then-not-in_order-5 c = sym (columns_amiss _ _ (sym (columns-told (goal.at.returns-then-not-in_order-5 c).After-in_order-5) ∙ not-true _ c.if-not-in_order-5.true))
+returns-then-not-in_order-5 c = sym (columns_amiss _ _ (sym (columns-told (goal.at.returns-then-not-in_order-5 c).After-in_order-5) ∙ c.if-not-in_order-5.true))
 
 pub kinds_fit-requires : goal.kinds_fit-requires
 unfolding layout_of
@@ -110,8 +110,8 @@ returns c =
     ∙ ap (λ (y : Layout). kinds_fit c.args.lists.now y.declared) c.requires.1
     ∙ sym
     (kinds_decide c.args.block.now c.args.lists.now
-    (sym (parameters-told (goal.at.returns c).After-in_order) ∙ not-false _ c.if-not-in_order.false)
-    (sym (iiv-told (goal.at.returns c).After-in_order-2) ∙ not-false _ c.if-not-in_order-2.false)
-    (sym (template-told (goal.at.returns c).After-in_order-3) ∙ not-false _ c.if-not-in_order-3.false)
-    (sym (declared-told (goal.at.returns c).After-in_order-4) ∙ not-false _ c.if-not-in_order-4.false)
-    (sym (columns-told (goal.at.returns c).After-in_order-5) ∙ not-false _ c.if-not-in_order-5.false))
+    (sym (parameters-told (goal.at.returns c).After-in_order) ∙ c.if-not-in_order.false)
+    (sym (iiv-told (goal.at.returns c).After-in_order-2) ∙ c.if-not-in_order-2.false)
+    (sym (template-told (goal.at.returns c).After-in_order-3) ∙ c.if-not-in_order-3.false)
+    (sym (declared-told (goal.at.returns c).After-in_order-4) ∙ c.if-not-in_order-4.false)
+    (sym (columns-told (goal.at.returns c).After-in_order-5) ∙ c.if-not-in_order-5.false))

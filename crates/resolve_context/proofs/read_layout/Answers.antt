@@ -3,15 +3,12 @@ use native.Mathlib.Omega.{arith}
 use borrow.Author.Rules.{rules}
 use Rattle.resolve_context.specs.Lists.{layout_of}
 use Rattle.resolve_context.proofs.Heads.{Heads, heads_of}
-use Rattle.resolve_context.proofs.read_layout.Goals.{After-shared_slice_known-5-1, Start}
+use Rattle.resolve_context.proofs.read_layout.Goals.{Start}
 use Rattle.resolve_context.proofs.read_layout.Goals as goal
 
--- what is known of the counts, at the start and behind the five of them
+-- what is known of the counts, at the start
 heads : (c : Start) → Heads c.args.lists.now
 heads c = heads_of _ c.requires
-
-counts : (c : After-shared_slice_known-5-1) → Heads c.args.lists.now
-counts c = heads (goal.at.After-shared_slice_known-5-1 c).Start
 
 pub returns : goal.returns
 unfolding layout_of
@@ -42,37 +39,37 @@ pub overflow_cast-declared : goal.overflow_cast-declared
 overflow_cast-declared c = omega (arith, c.type_inv.lists 3)
 
 pub bounds-lists-4 : goal.bounds-lists-4
-bounds-lists-4 c = omega (arith, counts (goal.at.bounds-lists-4 c).After-shared_slice_known-5-1)
+bounds-lists-4 c = omega (arith, heads (goal.at.bounds-lists-4 c).Start)
 
 pub overflow_cast-columns : goal.overflow_cast-columns
 overflow_cast-columns c = omega (arith, c.type_inv.lists 4)
 
 pub overflow_mul-second : goal.overflow_mul-second
-overflow_mul-second c = omega (arith, counts (goal.at.overflow_mul-second c).After-shared_slice_known-5-1)
+overflow_mul-second c = omega (arith, heads (goal.at.overflow_mul-second c).Start)
 
 pub overflow_add-second : goal.overflow_add-second
-overflow_add-second c = omega (arith, counts (goal.at.overflow_add-second c).After-shared_slice_known-5-1)
+overflow_add-second c = omega (arith, heads (goal.at.overflow_add-second c).Start)
 
 pub overflow_mul-third : goal.overflow_mul-third
-overflow_mul-third c = omega (arith, counts (goal.at.overflow_mul-third c).After-shared_slice_known-5-1)
+overflow_mul-third c = omega (arith, heads (goal.at.overflow_mul-third c).Start)
 
 pub overflow_add-third : goal.overflow_add-third
-overflow_add-third c = omega (arith, counts (goal.at.overflow_add-third c).After-shared_slice_known-5-1)
+overflow_add-third c = omega (arith, heads (goal.at.overflow_add-third c).Start)
 
 pub overflow_mul-fourth : goal.overflow_mul-fourth
-overflow_mul-fourth c = omega (arith, counts (goal.at.overflow_mul-fourth c).After-shared_slice_known-5-1)
+overflow_mul-fourth c = omega (arith, heads (goal.at.overflow_mul-fourth c).Start)
 
 pub overflow_add-fourth : goal.overflow_add-fourth
-overflow_add-fourth c = omega (arith, counts (goal.at.overflow_add-fourth c).After-shared_slice_known-5-1)
+overflow_add-fourth c = omega (arith, heads (goal.at.overflow_add-fourth c).Start)
 
 pub overflow_mul-fifth : goal.overflow_mul-fifth
-overflow_mul-fifth c = omega (arith, counts (goal.at.overflow_mul-fifth c).After-shared_slice_known-5-1)
+overflow_mul-fifth c = omega (arith, heads (goal.at.overflow_mul-fifth c).Start)
 
 pub overflow_add-fifth : goal.overflow_add-fifth
-overflow_add-fifth c = omega (arith, counts (goal.at.overflow_add-fifth c).After-shared_slice_known-5-1)
+overflow_add-fifth c = omega (arith, heads (goal.at.overflow_add-fifth c).Start)
 
 pub bounds-lists-5 : goal.bounds-lists-5
-bounds-lists-5 c = omega (arith, counts (goal.at.bounds-lists-5 c).After-shared_slice_known-5-1)
+bounds-lists-5 c = omega (arith, heads (goal.at.bounds-lists-5 c).Start)
 
 pub bounds-lists-6 : goal.bounds-lists-6
-bounds-lists-6 c = omega (arith, counts (goal.at.bounds-lists-6 c).After-shared_slice_known-5-1)
+bounds-lists-6 c = omega (arith, heads (goal.at.bounds-lists-6 c).Start)

@@ -13,7 +13,7 @@ use Rattle.resolve_context.proofs.stands.Goals as goal
 
 -- the counts and marks are as they should be
 heads : (c : Else-not-heads_fit) → heads_fit c.args.lists.now ≡ true
-heads c = sym c.heads_fit.ensures ∙ not-false _ c.if-not-heads_fit.false
+heads c = sym c.heads_fit.ensures ∙ c.if-not-heads_fit.false
 
 -- how long the run should be
 total : (c : After-past) → c.past.result ≡ past_all c.args.lists.now
@@ -28,7 +28,7 @@ returns-then-block-gt16384 c =
 pub returns-then-not-heads_fit : goal.returns-then-not-heads_fit
 returns-then-not-heads_fit c =
     let a = c.args in
-    sym (heads_amiss a.block.now a.lists.now (sym c.heads_fit.ensures ∙ not-true _ c.if-not-heads_fit.true))
+    sym (heads_amiss a.block.now a.lists.now (sym c.heads_fit.ensures ∙ c.if-not-heads_fit.true))
 
 pub read_layout-layout-requires : goal.read_layout-layout-requires
 read_layout-layout-requires c = heads (goal.at.read_layout-layout-requires c).Else-not-heads_fit

@@ -32,7 +32,7 @@ unfolding StayAs
 returns-then-not-is_covariate c = (
   rw c.in-Allometry.is
       (allometry_fault c.args.text.now c.args.block.now c.args.lists.now c.args.lets.now c.args.n c.in-Allometry.covariate c.in-Allometry.reference
-      (sym (not-true _ c.if-not-is_covariate.true) ∙ c.is_covariate.ensures)),
+      (sym (c.if-not-is_covariate.true) ∙ c.is_covariate.ensures)),
   refl,
 )
 

@@ -37,7 +37,7 @@ pub returns : goal.returns
 returns c =
     let a = c.args in
     let new = sym c.has_flag.ensures ∙ c.if-has_flag.false in
-    one_written a.work.now a.i a.k c.place_of-at.ensures new c.with_flag.ensures c.if-k-eq-MOST_GROUPS.false c.Group-of.ensures
+    one_written a.work.now a.i a.k c.place_of-at.ensures new c.with_flag.ensures c.if-k-eq-MOST_GROUPS.false c.group_of.ensures
 
 pub bounds-work-at : goal.bounds-work-at
 bounds-work-at c = place_in (goal.at.bounds-work-at c).After-place_of-at

@@ -1,5 +1,6 @@
 -- `resolve_statements::bring_one` meets its contract, statement by statement.
 -- Assumes nothing.
+use borrow.Enum.Refused.{opened}
 use Prim.Native.Nat.{ℕ}
 use mathlib.Core.Path.{◌≡◌, refl, ◌∙◌, ap, subst}
 use mathlib.Core.List.{List}
@@ -39,7 +40,7 @@ bring_other-requires c =
       c.requires.4,
       feature-fits c.args.text.now c.in-Feature.feature y,
       feature-short c.args.text.now c.in-Feature.feature y,
-      not-covariate c.in-Feature.feature c.in_default.in_default-own.keys2,
+      not-covariate c.in-Feature.feature (opened c.in_default.in_default-own.keys2),
       c.requires.6,
       c.requires.8,
       c.requires.9,

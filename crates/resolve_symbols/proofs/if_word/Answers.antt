@@ -4,13 +4,13 @@ use borrow.Author.Tests.{not-true, not-false}
 use Rattle.resolve_symbols.proofs.if_word.Goals as goal
 
 pub returns-then-not-same_word : goal.returns-then-not-same_word
-returns-then-not-same_word c = simp (sym c.same_word.ensures ∙ not-true _ c.if-not-same_word.true)
+returns-then-not-same_word c = simp (sym c.same_word.ensures ∙ c.if-not-same_word.true)
 
 pub returns-then-there : goal.returns-then-there
-returns-then-there c = simp (sym c.same_word.ensures ∙ not-false _ c.if-not-same_word.false, c.if-there.true)
+returns-then-there c = simp (sym c.same_word.ensures ∙ c.if-not-same_word.false, c.if-there.true)
 
 pub returns : goal.returns
-returns c = simp (sym c.same_word.ensures ∙ not-false _ c.if-not-same_word.false, c.if-there.false)
+returns c = simp (sym c.same_word.ensures ∙ c.if-not-same_word.false, c.if-there.false)
 
 pub same_word-requires : goal.same_word-requires
 same_word-requires c = tt

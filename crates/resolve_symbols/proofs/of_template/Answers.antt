@@ -40,7 +40,7 @@ module _ (c : After-has_role) where
 pub returns-then-not-has_role : goal.returns-then-not-has_role
 returns-then-not-has_role c =
     matches_nothing (block (goal.at.returns-then-not-has_role c).After-has_role) (lists (goal.at.returns-then-not-has_role c).After-has_role) (start (goal.at.returns-then-not-has_role c).After-has_role).args.layout
-    (binding_left (parameters (goal.at.returns-then-not-has_role c).After-has_role) (of_roles (start (goal.at.returns-then-not-has_role c).After-has_role).args.roles) (entry (goal.at.returns-then-not-has_role c).After-has_role) (sym (tested (goal.at.returns-then-not-has_role c).After-has_role) ∙ not-true _ c.if-not-has_role.true))
+    (binding_left (parameters (goal.at.returns-then-not-has_role c).After-has_role) (of_roles (start (goal.at.returns-then-not-has_role c).After-has_role).args.roles) (entry (goal.at.returns-then-not-has_role c).After-has_role) (sym (tested (goal.at.returns-then-not-has_role c).After-has_role) ∙ c.if-not-has_role.true))
 
 pub variables_of-requires : goal.variables_of-requires
 variables_of-requires c = template-near _ _ _ (start (goal.at.variables_of-requires c).After-has_role).pre.0
@@ -59,5 +59,5 @@ returns c =
     let own =
     c.name_at-variable.ensures ∙ ap (λ (n : Names). get_or (names_in (block (goal.at.returns c).After-has_role) (lists (goal.at.returns c).After-has_role) n) (start (goal.at.returns c).After-has_role).args.index []) c.variables_of.ensures in
     subst (λ (ws : List (List ℕ)). Matches (block (goal.at.returns c).After-has_role) (lists (goal.at.returns c).After-has_role) (start (goal.at.returns c).After-has_role).args.layout ws c.match_of.result)
-    (sym (binding_taken (parameters (goal.at.returns c).After-has_role) (of_roles (start (goal.at.returns c).After-has_role).args.roles) (entry (goal.at.returns c).After-has_role) (sym (tested (goal.at.returns c).After-has_role) ∙ not-false _ c.if-not-has_role.false)))
+    (sym (binding_taken (parameters (goal.at.returns c).After-has_role) (of_roles (start (goal.at.returns c).After-has_role).args.roles) (entry (goal.at.returns c).After-has_role) (sym (tested (goal.at.returns c).After-has_role) ∙ c.if-not-has_role.false)))
     (match_found (block (goal.at.returns c).After-has_role) (lists (goal.at.returns c).After-has_role) (start (goal.at.returns c).After-has_role).args.layout own c.match_of.ensures)

@@ -16,7 +16,7 @@ overflow_sub-left c = omega (arith, c.loop-left-test.true)
 
 pub returns-then-not-suits : goal.returns-then-not-suits
 returns-then-not-suits c =
-    sym (c.loop-left.invariant.1 ∙ simp (next_place c.loop-left.left c.loop-left.invariant.0 c.loop-left-test.true, sym c.suits.ensures ∙ not-true _ c.if-not-suits.true))
+    sym (c.loop-left.invariant.1 ∙ simp (next_place c.loop-left.left c.loop-left.invariant.0 c.loop-left-test.true, sym c.suits.ensures ∙ c.if-not-suits.true))
 
 pub loop-left-smaller : goal.loop-left-smaller
 loop-left-smaller c = omega (arith, c.loop-left-test.true)
@@ -24,7 +24,7 @@ loop-left-smaller c = omega (arith, c.loop-left-test.true)
 pub loop-left-preserved : goal.loop-left-preserved
 loop-left-preserved c = (
   omega (arith, c.loop-left.invariant.0),
-  c.loop-left.invariant.1 ∙ simp (next_place c.loop-left.left c.loop-left.invariant.0 c.loop-left-test.true, sym c.suits.ensures ∙ not-false _ c.if-not-suits.false),
+  c.loop-left.invariant.1 ∙ simp (next_place c.loop-left.left c.loop-left.invariant.0 c.loop-left-test.true, sym c.suits.ensures ∙ c.if-not-suits.false),
 )
 
 pub returns : goal.returns
