@@ -17,7 +17,7 @@ ghost use Rattle.dumachik.specs.Scan.{stray_at};
 ghost use Rattle.words.specs.Word.{word};
 ghost use Rattle.read_profile.specs.Answers.{yes_as_zero};
 
-use resolve_records::Effect;
+use resolve_records::{Effect, Resolving};
 use tokens::Scanned;
 
 // The offset of the first byte that starts no token, or the text's length where there is none.
@@ -101,12 +101,5 @@ pub extern "C" fn mfl_resolve(
         ground.old ground.new effects.old effects.new
         notes.old notes.new work.old work.new }
 {
-    let room = effects.len();
-    let word = resolve_records::resolve_word(
-        text, block, lists, ground, room, notes, work, ceiling,
-    );
-    let n = resolve_records::effects_told(word);
-    resolve_records::store_effects(effects, work, n);
-    resolve_call::finish(work);
-    word
+    record_laws::call::<Resolving>(text, block, lists, ground, effects, notes, work, ceiling)
 }

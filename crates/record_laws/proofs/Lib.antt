@@ -1,3 +1,1 @@
-pub mod Call
-pub mod Lending
-pub mod Store
+pub mod Stored

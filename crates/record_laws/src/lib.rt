@@ -1,3 +1,138 @@
-// Laws of functions over a lent slice of records, for any record: each is a walk of a function's code, done once for its shape. There is no code
-// here: a function of that shape, in a crate that knows its record, is an instance.
+// Laws of functions over a lent slice of records, for any record. Each is a generic function that is proved once: a function of its shape, in a crate
+// that knows its record, is a call of it, and has what it says.
 #![tactic(auto)]
+
+ghost use Rattle.std.specs.Prelude.{◌≡◌, ℕ, List, ◌++◌, map, ◌≤◌, ◌<◌, length, get_or, take, drop};
+ghost use Rattle.std.specs.Fn.{FnOnceReturnsAt, FnOnceReturnsAtMut};
+ghost use Rattle.record_laws.specs.Call.{Of, Says, Enough};
+
+// Records that are packed, each in one number.
+pub trait Unpacks {
+    type Record: Copy;
+
+    // What a packed number stands for.
+    ghost unpack: { ℕ → Self.Record };
+
+    // The record at an index of a packed run.
+    fn record_in(packed: &[u32], i: usize) -> Self::Record
+        requires { i < length packed.now }
+        ensures { result ≡ unpack (get_or packed.now i 0) };
+}
+
+// The first n records of a packed run; those behind them are left as they were.
+pub fn store<U: Unpacks>(records: &mut [U::Record], packed: &[u32], n: usize)
+    requires { (n ≤ length records.old) × (n ≤ length packed.now) }
+    ensures { records.new ≡ map U.unpack (take n packed.now) ++ drop n records.old }
+{
+    let mut i: usize = 0;
+    while i < n {
+        let e = U::record_in(packed, i);
+        records[i] = e;
+        i += 1;
+    }
+}
+
+// A slice that is lent on for a call comes back with what the call left in it.
+pub fn lend<R, X, F: FnOnce(&mut [R]) -> X>(records: &mut [R], f: F) -> X
+    requires { F.IsAlwaysCallable f }
+    ensures { FnOnceReturnsAtMut F.FnOnce f records.old result records.new }
+{
+    f(records)
+}
+
+// A slice that is lent on for a call that only reads it comes back as it was.
+pub fn share<R, X, F: FnOnce(&[R]) -> X>(records: &mut [R], f: F) -> X
+    requires { F.IsAlwaysCallable f }
+    ensures told { FnOnceReturnsAt F.FnOnce f records.old result }
+    ensures kept { records.new ≡ records.old }
+{
+    f(records)
+}
+
+// A call whose work leaves its records packed at the start of a working buffer: what it is handed, the four functions that it consists of, and what
+// it answers and leaves.
+pub trait PackedCall {
+    // The types of the elements: of the three slices that are read, and of the output, the records and the notes.
+    type First;
+
+    type Second;
+
+    type Third;
+
+    type Output;
+
+    type Record;
+
+    type Note;
+
+    // What a packed number stands for, how many records a word tells of, and what is left of the working buffer.
+    ghost unpack: { ℕ → Self.Record };
+
+    ghost counted: { ℕ → ℕ };
+
+    ghost finished: { List ℕ → List ℕ };
+
+    // What the work says of its answer, and of the output, the notes and the working buffer that it leaves.
+    ghost says: { Says Self.First Self.Second Self.Third Self.Output Self.Note };
+
+    // What the call answers, and what it leaves in each buffer.
+    ghost answer_of: { Of Self.First Self.Second Self.Third Self.Output Self.Record Self.Note ℕ };
+
+    ghost output_of: { Of Self.First Self.Second Self.Third Self.Output Self.Record Self.Note (List Self.Output) };
+
+    ghost records_of: { Of Self.First Self.Second Self.Third Self.Output Self.Record Self.Note (List Self.Record) };
+
+    ghost notes_of: { Of Self.First Self.Second Self.Third Self.Output Self.Record Self.Note (List Self.Note) };
+
+    ghost work_of: { Of Self.First Self.Second Self.Third Self.Output Self.Record Self.Note (List ℕ) };
+
+    fn pack(
+        a: &[Self::First],
+        b: &[Self::Second],
+        c: &[Self::Third],
+        output: &mut [Self::Output],
+        room: usize,
+        notes: &mut [Self::Note],
+        work: &mut [u32],
+        limit: u32,
+    ) -> u64
+        ensures { says a.now b.now c.now output.old room notes.old work.old limit
+            result output.new notes.new work.new };
+
+    fn count(word: u64) -> usize
+        ensures { result ≡ counted word };
+
+    fn store(records: &mut [Self::Record], packed: &[u32], n: usize)
+        requires { (n ≤ length records.old) × (n ≤ length packed.now) }
+        ensures { records.new ≡ map unpack (take n packed.now) ++ drop n records.old };
+
+    fn finish(work: &mut [u32])
+        ensures { work.new ≡ finished work.old };
+}
+
+// Such a call: its work, then as many records stored as its word tells of, then the working buffer finished, and the word. What the work says has to
+// be enough for what the call says.
+pub fn call<C: PackedCall>(
+    a: &[C::First],
+    b: &[C::Second],
+    c: &[C::Third],
+    output: &mut [C::Output],
+    records: &mut [C::Record],
+    notes: &mut [C::Note],
+    work: &mut [u32],
+    limit: u32,
+) -> u64
+    requires { Enough C.unpack C.counted C.finished C.answer_of C.output_of C.records_of C.notes_of C.work_of C.says }
+    ensures told { result ≡ C.answer_of a.now b.now c.now output.old records.old notes.old work.old limit }
+    ensures output_after { output.new ≡ C.output_of a.now b.now c.now output.old records.old notes.old work.old limit }
+    ensures records_after { records.new ≡ C.records_of a.now b.now c.now output.old records.old notes.old work.old limit }
+    ensures notes_after { notes.new ≡ C.notes_of a.now b.now c.now output.old records.old notes.old work.old limit }
+    ensures work_after { work.new ≡ C.work_of a.now b.now c.now output.old records.old notes.old work.old limit }
+{
+    let room = records.len();
+    let word = C::pack(a, b, c, output, room, notes, work, limit);
+    let n = C::count(word);
+    C::store(records, work, n);
+    C::finish(work);
+    word
+}

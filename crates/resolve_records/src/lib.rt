@@ -1,5 +1,5 @@
 // Resolve with its effects as records: a lent slice of structs at the edge, over the call that leaves them packed. A function that has such a slice
-// is an instance of a law of `record_laws`; all work is in functions over numbers.
+// calls a law of `record_laws`; all work is in functions over numbers.
 #![tactic(auto)]
 
 ghost use Rattle.std.specs.Prelude.{◌≡◌, ◌++◌, map, ◌+◌, ◌*◌, ◌≤◌, ◌<◌, length, get_or, take, drop};
@@ -8,7 +8,9 @@ ghost use Rattle.resolving.specs.Call.{resolving_call, lengths_of, output_of, wo
 ghost use Rattle.resolve_settling.specs.Answers.{Packed, resolved_as, lengths_as, rooms, lent};
 ghost use Rattle.resolve_records.specs.Records.{record_of, unpacked};
 ghost use Rattle.resolve_records.specs.Words.{lengths_word, resolved_word, effects_told, Small};
+ghost use Rattle.resolve_records.specs.Stored.{work_says, answer_of, ground_of, effects_of, notes_of, work_of};
 
+use record_laws::{PackedCall, Unpacks};
 use resolve_settling::{Lengths, Resolved};
 
 // An effect: its parameter and its covariate, each the index of its name's first entry in its list, its form by its place in the family, its
@@ -38,17 +40,25 @@ fn effect_in(packed: &[u32], i: usize) -> Effect
     }
 }
 
+// Effects that are packed, each in one number.
+pub struct Effects;
+
+impl Unpacks for Effects {
+    type Record = Effect;
+
+    ghost unpack = { unpacked };
+
+    fn record_in(packed: &[u32], i: usize) -> Effect {
+        effect_in(packed, i)
+    }
+}
+
 // The first n effects of a packed run; those behind them are left as they were.
 pub fn store_effects(effects: &mut [Effect], packed: &[u32], n: usize)
     requires { (n ≤ length effects.old) × (n ≤ length packed.now) }
     ensures { effects.new ≡ map unpacked (take n packed.now) ++ drop n effects.old }
 {
-    let mut i: usize = 0;
-    while i < n {
-        let e = effect_in(packed, i);
-        effects[i] = e;
-        i += 1;
-    }
+    record_laws::store::<Effects>(effects, packed, n);
 }
 
 fn lengths_word(n: Lengths) -> u64
@@ -97,4 +107,64 @@ pub fn resolve_word(
         text, block, lists, ground, room, notes, work, limit,
     );
     resolved_word(resolved)
+}
+
+// Resolve as a call whose work leaves its records packed.
+pub struct Resolving;
+
+impl PackedCall for Resolving {
+    type First = u8;
+
+    type Second = u8;
+
+    type Third = u32;
+
+    type Output = u8;
+
+    type Record = Effect;
+
+    type Note = [u8; 2];
+
+    ghost unpack = { unpacked };
+
+    ghost counted = { effects_told };
+
+    ghost finished = { work_after };
+
+    ghost says = { work_says };
+
+    ghost answer_of = { answer_of };
+
+    ghost output_of = { ground_of };
+
+    ghost records_of = { effects_of };
+
+    ghost notes_of = { notes_of };
+
+    ghost work_of = { work_of };
+
+    fn pack(
+        text: &[u8],
+        block: &[u8],
+        lists: &[u32],
+        ground: &mut [u8],
+        room: usize,
+        notes: &mut [[u8; 2]],
+        work: &mut [u32],
+        limit: u32,
+    ) -> u64 {
+        resolve_word(text, block, lists, ground, room, notes, work, limit)
+    }
+
+    fn count(word: u64) -> usize {
+        effects_told(word)
+    }
+
+    fn store(effects: &mut [Effect], packed: &[u32], n: usize) {
+        store_effects(effects, packed, n);
+    }
+
+    fn finish(work: &mut [u32]) {
+        resolve_call::finish(work);
+    }
 }

@@ -12,7 +12,7 @@ use Rattle.read_statements.proofs.Keeping.{none_kept, one_kept, refused_then, ac
 use Rattle.print_writing.proofs.Going.{as_long}
 use Rattle.numbers_all.proofs.Putting.{none-put, this-fits, this-ready, one-put, all-put}
 use Rattle.numbers_all.proofs.Answering.{refused_answers, double_answers}
-use Rattle.numbers_all.proofs.put_read.Goals.{In-Statement-2}
+use Rattle.numbers_all.proofs.put_read.Goals.{In-Statement}
 use Rattle.numbers_all.proofs.put_read.Goals as goal
 
 pub loop-form-init : goal.loop-form-init
@@ -24,7 +24,7 @@ next_statement-requires c =
     (p.0, p.1, p.2, c.loop-form.invariant.0.few)
 
 -- the statement that was read, and what is left behind it
-ahead : (c : In-Statement-2)
+ahead : (c : In-Statement)
     → let a = c.args in
     reading_at a.limit a.text.now c.loop-form.n between c.loop-form.cur.at
     ≡ prepend (statement_in a.text.now c.in-Statement.form) (reading_at a.limit a.text.now (suc c.loop-form.n) between c.in-Statement.after.at)
@@ -32,7 +32,7 @@ unfolding next_then
 ahead c = c.next_statement.ensures.at_value ∙ ap (next_then _ _ _) c.in-Statement.is
 
 -- its end lies behind its start, and there were not 256 before it
-forward : (c : In-Statement-2)
+forward : (c : In-Statement)
     → let a = c.args in
     (c.loop-form.cur.at < c.in-Statement.after.at) × (c.in-Statement.after.at ≤ length a.text.now) × (c.loop-form.n < 256)
 unfolding NextFurther
@@ -41,20 +41,20 @@ forward c =
     c.next_statement.ensures.next_further
 
 pub offset_bounds-forms-n : goal.offset_bounds-forms-n
-offset_bounds-forms-n c = omega (arith, (forward (goal.at.offset_bounds-forms-n c).In-Statement-2).2)
+offset_bounds-forms-n c = omega (arith, (forward (goal.at.offset_bounds-forms-n c).In-Statement).2)
 
 pub bounds-forms-n : goal.bounds-forms-n
-bounds-forms-n c = omega (arith, (forward (goal.at.bounds-forms-n c).In-Statement-2).2)
+bounds-forms-n c = omega (arith, (forward (goal.at.bounds-forms-n c).In-Statement).2)
 
 pub overflow_add-n : goal.overflow_add-n
-overflow_add-n c = omega (arith, (forward (goal.at.overflow_add-n c).In-Statement-2).2)
+overflow_add-n c = omega (arith, (forward (goal.at.overflow_add-n c).In-Statement).2)
 
 pub loop-form-smaller : goal.loop-form-smaller
-loop-form-smaller c = omega (arith, forward (goal.at.loop-form-smaller c).In-Statement-2)
+loop-form-smaller c = omega (arith, forward (goal.at.loop-form-smaller c).In-Statement)
 
 pub loop-form-preserved : goal.loop-form-preserved
 loop-form-preserved c = (
-  one_kept c.loop-form.invariant.0 c.in-Statement.form c.in-Statement.after.at (ahead (goal.at.loop-form-preserved c).In-Statement-2) (omega (arith, (forward (goal.at.loop-form-preserved c).In-Statement-2).2, c.loop-form.invariant.1)) (forward (goal.at.loop-form-preserved c).In-Statement-2).0,
+  one_kept c.loop-form.invariant.0 c.in-Statement.form c.in-Statement.after.at (ahead (goal.at.loop-form-preserved c).In-Statement) (omega (arith, (forward (goal.at.loop-form-preserved c).In-Statement).2, c.loop-form.invariant.1)) (forward (goal.at.loop-form-preserved c).In-Statement).0,
   length-set c.loop-form.forms c.loop-form.n c.in-Statement.form ∙ c.loop-form.invariant.1,
 )
 

@@ -10,12 +10,12 @@ use Rattle.reading.specs.Calls.{stating}
 use Rattle.numbers_statement.specs.Answers.{numbered, numbering}
 use Rattle.print_writing.proofs.Answering.{refused_answers}
 use Rattle.numbers_statement.proofs.Whole.{statement-numbers, numbers_ready}
-use Rattle.numbers_statement.proofs.numbers_under.Goals.{In-Statement-2}
+use Rattle.numbers_statement.proofs.numbers_under.Goals.{In-Statement}
 use Rattle.numbers_statement.proofs.numbers_under.Goals as goal
 
 -- the statement that was found
 whole :
-    (c : In-Statement-2)
+    (c : In-Statement)
     → (let x = c.args in
     accepted (statement_in x.text.now c.in-Statement.statement) ≡ stating x.limit x.text.now x.index)
 unfolding statement_as
@@ -31,8 +31,8 @@ put_whole-requires c =
     let st = c.in-Statement.statement in
     rw c.parts_of.ensures (
       refl,
-      statement-fits a.limit s st (found_as-read a.limit s a.index (statement_in s st) (whole (goal.at.put_whole-requires c).In-Statement-2)),
-      numbers_ready a.limit s a.index st (whole (goal.at.put_whole-requires c).In-Statement-2),
+      statement-fits a.limit s st (found_as-read a.limit s a.index (statement_in s st) (whole (goal.at.put_whole-requires c).In-Statement)),
+      numbers_ready a.limit s a.index st (whole (goal.at.put_whole-requires c).In-Statement),
     )
 
 pub returns-in-Statement : goal.returns-in-Statement
@@ -40,7 +40,7 @@ returns-in-Statement c =
     let a = c.args in
     let out = a.out.now in
     let e = rw (c.parts_of.ensures, statement-numbers a.text.now c.in-Statement.statement) at c.put_whole.ensures in
-    rw (← whole (goal.at.returns-in-Statement c).In-Statement-2) e
+    rw (← whole (goal.at.returns-in-Statement c).In-Statement) e
 
 pub returns-in-Refused : goal.returns-in-Refused
 unfolding statement_as

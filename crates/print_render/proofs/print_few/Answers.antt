@@ -10,7 +10,7 @@ use Rattle.print_writing.proofs.Going.{as_long}
 use Rattle.print_render.specs.Text.{KeptAs}
 use Rattle.read_statements.proofs.Keeping.{none_kept, one_kept, refused_then, accepted_then}
 use Rattle.print_render.proofs.Keeping.{none-put, this-fits, this-room, one-put, all-put}
-use Rattle.print_render.proofs.print_few.Goals.{In-Statement-2}
+use Rattle.print_render.proofs.print_few.Goals.{In-Statement}
 use Rattle.print_render.proofs.print_few.Goals as goal
 
 pub loop-form-init : goal.loop-form-init
@@ -22,7 +22,7 @@ next_statement-requires c =
     (p.0, p.1, p.2, c.loop-form.invariant.0.few)
 
 -- the statement that was read, and what is left behind it
-ahead : (c : In-Statement-2)
+ahead : (c : In-Statement)
     → let a = c.args in
     reading_at a.limit a.text.now c.loop-form.n between c.loop-form.cur.at
     ≡ prepend (statement_in a.text.now c.in-Statement.form) (reading_at a.limit a.text.now (suc c.loop-form.n) between c.in-Statement.after.at)
@@ -30,7 +30,7 @@ unfolding next_then
 ahead c = c.next_statement.ensures.at_value ∙ ap (next_then _ _ _) c.in-Statement.is
 
 -- its end lies behind its start
-forward : (c : In-Statement-2)
+forward : (c : In-Statement)
     → let a = c.args in
     (c.loop-form.cur.at < c.in-Statement.after.at) × (c.in-Statement.after.at ≤ length a.text.now)
 unfolding NextFurther
@@ -52,11 +52,11 @@ pub overflow_add-n : goal.overflow_add-n
 overflow_add-n c = omega (arith, c.if-n-ge32.false)
 
 pub loop-form-smaller : goal.loop-form-smaller
-loop-form-smaller c = omega (arith, forward (goal.at.loop-form-smaller c).In-Statement-2)
+loop-form-smaller c = omega (arith, forward (goal.at.loop-form-smaller c).In-Statement)
 
 pub loop-form-preserved : goal.loop-form-preserved
 loop-form-preserved c = (
-  one_kept c.loop-form.invariant.0 c.in-Statement.form c.in-Statement.after.at (ahead (goal.at.loop-form-preserved c).In-Statement-2) (omega (arith, c.if-n-ge32.false, c.loop-form.invariant.1)) (forward (goal.at.loop-form-preserved c).In-Statement-2).0,
+  one_kept c.loop-form.invariant.0 c.in-Statement.form c.in-Statement.after.at (ahead (goal.at.loop-form-preserved c).In-Statement) (omega (arith, c.if-n-ge32.false, c.loop-form.invariant.1)) (forward (goal.at.loop-form-preserved c).In-Statement).0,
   length-set c.loop-form.forms c.loop-form.n c.in-Statement.form ∙ c.loop-form.invariant.1,
 )
 

@@ -9,7 +9,7 @@ use Rattle.read_forms.specs.Forms.{statement_in}
 use Rattle.read_statements.specs.Answers.{reading_at, next_then, NextFurther}
 use Rattle.print_writing.proofs.Going.{as_long}
 use Rattle.print_render.proofs.Loop.{none_yet, next_fits, next-room, one_more, all-printed, never}
-use Rattle.print_render.proofs.put_text.Goals.{In-Statement-2}
+use Rattle.print_render.proofs.put_text.Goals.{In-Statement}
 use Rattle.print_render.proofs.put_text.Goals as goal
 
 pub loop-form-init : goal.loop-form-init
@@ -21,7 +21,7 @@ next_statement-requires c =
     (p.0, p.1, p.2, c.loop-form.invariant.few)
 
 -- the statement that was read, and what is left behind it
-ahead : (c : In-Statement-2)
+ahead : (c : In-Statement)
     → let a = c.args in
     reading_at a.limit a.text.now c.loop-form.n between c.loop-form.cur.at
     ≡ prepend (statement_in a.text.now c.in-Statement.form) (reading_at a.limit a.text.now (suc c.loop-form.n) between c.in-Statement.next.at)
@@ -29,7 +29,7 @@ unfolding next_then
 ahead c = c.next_statement.ensures.at_value ∙ ap (next_then _ _ _) c.in-Statement.is
 
 -- its end lies behind its start
-forward : (c : In-Statement-2)
+forward : (c : In-Statement)
     → let a = c.args in
     (c.loop-form.cur.at < c.in-Statement.next.at) × (c.in-Statement.next.at ≤ length a.text.now)
 unfolding NextFurther
@@ -43,20 +43,20 @@ put_next-at-requires c =
       p.0,
       p.1,
       p.2,
-      next_fits c.loop-form.invariant c.in-Statement.form c.in-Statement.next.at (ahead (goal.at.put_next-at-requires c).In-Statement-2),
-      next-room c.loop-form.invariant c.in-Statement.form c.in-Statement.next.at (ahead (goal.at.put_next-at-requires c).In-Statement-2),
+      next_fits c.loop-form.invariant c.in-Statement.form c.in-Statement.next.at (ahead (goal.at.put_next-at-requires c).In-Statement),
+      next-room c.loop-form.invariant c.in-Statement.form c.in-Statement.next.at (ahead (goal.at.put_next-at-requires c).In-Statement),
     )
 
 pub overflow_add-n : goal.overflow_add-n
 overflow_add-n c =
-    omega (arith, forward (goal.at.overflow_add-n c).In-Statement-2, c.loop-form.invariant.few)
+    omega (arith, forward (goal.at.overflow_add-n c).In-Statement, c.loop-form.invariant.few)
 
 pub loop-form-smaller : goal.loop-form-smaller
-loop-form-smaller c = omega (arith, forward (goal.at.loop-form-smaller c).In-Statement-2)
+loop-form-smaller c = omega (arith, forward (goal.at.loop-form-smaller c).In-Statement)
 
 pub loop-form-preserved : goal.loop-form-preserved
 loop-form-preserved c =
-    one_more c.loop-form.invariant c.in-Statement.form c.in-Statement.next.at (ahead (goal.at.loop-form-preserved c).In-Statement-2) (omega (arith, forward (goal.at.loop-form-preserved c).In-Statement-2, c.loop-form.invariant.few)) c.put_next-at.ensures
+    one_more c.loop-form.invariant c.in-Statement.form c.in-Statement.next.at (ahead (goal.at.loop-form-preserved c).In-Statement) (omega (arith, forward (goal.at.loop-form-preserved c).In-Statement, c.loop-form.invariant.few)) c.put_next-at.ensures
 
 pub shape_of-out-in-End : goal.shape_of-out-in-End
 shape_of-out-in-End c = as_long c.loop-form.invariant.gone

@@ -8,7 +8,7 @@ use lib.ListN.{length}
 use Rattle.profiling.specs.Profile.{profile_of}
 use Rattle.read_profile.specs.Answers.{mark_as, Numbered, profiled_as}
 use Rattle.read_profile.proofs.Judging.{none_judged, all_judged, outside-refused, plain-passed, second-refused, high-refused, once-passed, form-fits}
-use Rattle.read_profile.proofs.first_fault.Goals.{In-Once-2, In-loop-i, Start}
+use Rattle.read_profile.proofs.first_fault.Goals.{In-Once, In-loop-i, Start}
 use Rattle.read_profile.proofs.first_fault.Goals as goal
 
 -- the array has room for all statements, and there are at most 256
@@ -19,7 +19,7 @@ index_below : (t : In-loop-i) → t.loop-i.i < 256
 index_below t = omega (arith, t.loop-i-test.true, t.requires.1.few)
 
 -- which of the five it is
-below : (f : In-Once-2) → f.in-Once.feature < 5
+below : (f : In-Once) → f.in-Once.feature < 5
 unfolding Numbered
 below f = subst Numbered f.in-Once.is f.mark_of.ensures.1
 
@@ -56,24 +56,24 @@ loop-i-preserved-in-Plain c =
     (ap mark_as c.in-Plain.is)
 
 pub bounds-seen-feature : goal.bounds-seen-feature
-bounds-seen-feature c = below (goal.at.bounds-seen-feature c).In-Once-2
+bounds-seen-feature c = below (goal.at.bounds-seen-feature c).In-Once
 
 pub returns-then-seen-feature : goal.returns-then-seen-feature
 unfolding mark_as profiled_as profile_of
 returns-then-seen-feature c =
     ap profiled_as c.refused-then-seen-feature.ensures
     ∙ second-refused c.loop-i.invariant _ c.loop-i-test.true (all_held (goal.at.returns-then-seen-feature c).Start) (mark_as c.mark_of.result) c.mark_of.ensures.0
-    c.in-Once.feature c.in-Once.high (below (goal.at.returns-then-seen-feature c).In-Once-2) (ap mark_as c.in-Once.is) c.if-seen-feature.true
+    c.in-Once.feature c.in-Once.high (below (goal.at.returns-then-seen-feature c).In-Once) (ap mark_as c.in-Once.is) c.if-seen-feature.true
 
 pub returns-then-high : goal.returns-then-high
 unfolding mark_as profiled_as profile_of
 returns-then-high c =
     ap profiled_as c.refused-then-high.ensures
     ∙ high-refused c.loop-i.invariant _ c.loop-i-test.true (all_held (goal.at.returns-then-high c).Start) (mark_as c.mark_of.result) c.mark_of.ensures.0
-    c.in-Once.feature c.in-Once.high (below (goal.at.returns-then-high c).In-Once-2) (ap mark_as c.in-Once.is) c.if-seen-feature.false c.if-high.true
+    c.in-Once.feature c.in-Once.high (below (goal.at.returns-then-high c).In-Once) (ap mark_as c.in-Once.is) c.if-seen-feature.false c.if-high.true
 
 pub bounds-seen-feature-in-Once : goal.bounds-seen-feature-in-Once
-bounds-seen-feature-in-Once c = below (goal.at.bounds-seen-feature-in-Once c).In-Once-2
+bounds-seen-feature-in-Once c = below (goal.at.bounds-seen-feature-in-Once c).In-Once
 
 pub overflow_add-i-in-Once : goal.overflow_add-i-in-Once
 overflow_add-i-in-Once c = omega (arith, index_below (goal.at.overflow_add-i-in-Once c).In-loop-i)
@@ -85,7 +85,7 @@ pub loop-i-preserved : goal.loop-i-preserved
 unfolding mark_as
 loop-i-preserved c =
     once-passed c.loop-i.invariant _ c.loop-i-test.true (all_held (goal.at.loop-i-preserved c).Start) (mark_as c.mark_of.result) c.mark_of.ensures.0
-    c.in-Once.feature c.in-Once.high (below (goal.at.loop-i-preserved c).In-Once-2) (ap mark_as c.in-Once.is) c.if-seen-feature.false c.if-high.false
+    c.in-Once.feature c.in-Once.high (below (goal.at.loop-i-preserved c).In-Once) (ap mark_as c.in-Once.is) c.if-seen-feature.false c.if-high.false
 
 pub returns : goal.returns
 unfolding profiled_as profile_of

@@ -6,7 +6,7 @@ use lib.ListN.{length, length-set}
 use Rattle.read_statements.specs.Answers.{next_then, NextFurther}
 use Rattle.read_statements.proofs.Keeping.{none_kept, one_kept, refused_then, accepted_then}
 use Rattle.read_space.specs.Space.{space_as}
-use Rattle.read_space.proofs.read_space.Goals.{In-Statement-2}
+use Rattle.read_space.proofs.read_space.Goals.{In-Statement}
 use Rattle.read_space.proofs.read_space.Goals as goal
 
 pub loop-statement-init : goal.loop-statement-init
@@ -18,7 +18,7 @@ next_statement-requires c =
     (p.0, p.1, p.2, c.loop-statement.invariant.0.few)
 
 -- its end lies behind its start, and there were not 256 before it
-forward : (c : In-Statement-2)
+forward : (c : In-Statement)
     → let a = c.args in
     (c.loop-statement.cur.at < c.in-Statement.after.at) × (c.in-Statement.after.at ≤ length a.text.now) × (c.loop-statement.n < 256)
 unfolding NextFurther
@@ -27,24 +27,24 @@ forward c =
     c.next_statement.ensures.next_further
 
 pub offset_bounds-forms-n : goal.offset_bounds-forms-n
-offset_bounds-forms-n c = omega (arith, (forward (goal.at.offset_bounds-forms-n c).In-Statement-2).2)
+offset_bounds-forms-n c = omega (arith, (forward (goal.at.offset_bounds-forms-n c).In-Statement).2)
 
 pub bounds-forms-n : goal.bounds-forms-n
-bounds-forms-n c = omega (arith, (forward (goal.at.bounds-forms-n c).In-Statement-2).2)
+bounds-forms-n c = omega (arith, (forward (goal.at.bounds-forms-n c).In-Statement).2)
 
 pub overflow_add-n : goal.overflow_add-n
-overflow_add-n c = omega (arith, (forward (goal.at.overflow_add-n c).In-Statement-2).2)
+overflow_add-n c = omega (arith, (forward (goal.at.overflow_add-n c).In-Statement).2)
 
 pub loop-statement-smaller : goal.loop-statement-smaller
-loop-statement-smaller c = omega (arith, forward (goal.at.loop-statement-smaller c).In-Statement-2)
+loop-statement-smaller c = omega (arith, forward (goal.at.loop-statement-smaller c).In-Statement)
 
 pub loop-statement-preserved : goal.loop-statement-preserved
 unfolding next_then
 loop-statement-preserved c = (
   one_kept c.loop-statement.invariant.0 (record { statement = c.in-Statement.statement }) c.in-Statement.after.at
       (c.next_statement.ensures.at_value ∙ ap (next_then _ _ _) c.in-Statement.is)
-      (omega (arith, (forward (goal.at.loop-statement-preserved c).In-Statement-2).2, c.loop-statement.invariant.1))
-      (forward (goal.at.loop-statement-preserved c).In-Statement-2).0,
+      (omega (arith, (forward (goal.at.loop-statement-preserved c).In-Statement).2, c.loop-statement.invariant.1))
+      (forward (goal.at.loop-statement-preserved c).In-Statement).0,
   length-set c.loop-statement.forms c.loop-statement.n (record { statement = c.in-Statement.statement }) ∙ c.loop-statement.invariant.1,
 )
 

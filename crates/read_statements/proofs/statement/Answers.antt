@@ -13,7 +13,7 @@ use Rattle.read_syntax.specs.declared.CallRead.TheVariants as callRead
 use Rattle.read_syntax.specs.Answers.{call_then, CallFurther}
 use Rattle.read_statements.specs.Answers.{one_before, next_then, NextFrom}
 use Rattle.read_statements.proofs.Whole.{from_sooner}
-use Rattle.read_statements.proofs.statement.Goals.{After-read_call, In-Call-2}
+use Rattle.read_statements.proofs.statement.Goals.{After-read_call, In-Call}
 use Rattle.read_statements.proofs.statement.Goals as goal
 
 either_state :
@@ -39,7 +39,7 @@ told d =
 
 -- where the statement that was read ends
 further :
-    (d : In-Call-2)
+    (d : In-Call)
     → let a = d.args in
     CallFurther a.text.now a.cur.at (callRead.Call d.in-Call.head d.in-Call.args d.in-Call.next)
 further d = subst (CallFurther _ _) d.in-Call.is d.read_call.ensures.call_further
@@ -48,13 +48,13 @@ pub feature_statement-requires : goal.feature_statement-requires
 unfolding CallFurther
 feature_statement-requires c =
     let p = c.requires in
-    let f = further (goal.at.feature_statement-requires c).In-Call-2 in record { classes_value = (p.0, p.1, p.2); in_text = (p.3, f.2, p.4, f.1) }
+    let f = further (goal.at.feature_statement-requires c).In-Call in record { classes_value = (p.0, p.1, p.2); in_text = (p.3, f.2, p.4, f.1) }
 
 pub let_statement-requires : goal.let_statement-requires
 unfolding CallFurther
 let_statement-requires c =
     let p = c.requires in
-    let f = further (goal.at.let_statement-requires c).In-Call-2 in
+    let f = further (goal.at.let_statement-requires c).In-Call in
     (p.0, f.2.first, p.4, f.1)
 
 pub returns-in-Feature : goal.returns-in-Feature
@@ -62,7 +62,7 @@ unfolding call_then CallFurther
 returns-in-Feature c =
     let a = c.args in
     let s = a.text.now in
-    let f = further (goal.at.returns-in-Feature c).In-Call-2 in record {
+    let f = further (goal.at.returns-in-Feature c).In-Call in record {
       at_value = ap (one_before a.limit (length s) a.n)
           (told (goal.at.returns-in-Feature c).After-read_call
           ∙ ap (call_then a.limit s (name_in s a.name))
@@ -76,7 +76,7 @@ unfolding call_then CallFurther
 returns-in-Let c =
     let a = c.args in
     let s = a.text.now in
-    let f = further (goal.at.returns-in-Let c).In-Call-2 in record {
+    let f = further (goal.at.returns-in-Let c).In-Call in record {
       at_value = ap (one_before a.limit (length s) a.n)
           (told (goal.at.returns-in-Let c).After-read_call
           ∙ ap (call_then a.limit s (name_in s a.name))

@@ -21,7 +21,7 @@ use Rattle.read_arguments.specs.Answers.{read_in, step_in, arg_then, ArgFurther,
 use Rattle.read_syntax.specs.Answers.{call_of, takes_one, call_then, CallFurther}
 use Rattle.read_syntax.proofs.Going.{misplaced_then, comma-one, comma-more, closed-made, empty-one, empty-none, empty_some}
 use Rattle.read_syntax.proofs.Held.{args_of, added_at, added, Holds, none-held, none-fit, added-fit, added-held}
-use Rattle.read_syntax.proofs.read_args.Goals.{After-after_argument, After-argument, At-loop-arg, In-Arg, In-Close-2, In-Comma-2, Joined-count}
+use Rattle.read_syntax.proofs.read_args.Goals.{After-after_argument, After-argument, At-loop-arg, In-Arg, In-Close, In-Comma, Joined-count, in-0, in-1, in-2, in-3, in_default}
 use Rattle.read_syntax.proofs.read_args.Goals as goal
 
 -- the arguments before one is read, and where it is in its place
@@ -38,27 +38,28 @@ grown :
 unfolding added_at
 grown d =
     let n = d.loop-arg.count in
-    ⊎_elim (λ w. simp (eq-eqb n 0 w.0.keys1, w.1, w.2, w.3, w.4))
-    (⊎_elim (λ w. let k = w.0.keys2 in simp (ne_eqb n 0 (λ q. omega arith), eq-eqb n 1 k, w.1, w.2, w.3, w.4))
-    (⊎_elim
-    (λ w. let k = w.0.keys3 in simp (ne_eqb n 0 (λ q. omega arith), ne_eqb n 1 (λ q. omega arith), eq-eqb n 2 k, w.1, w.2, w.3, w.4))
-    (⊎_elim
-    (λ w.
-    let k = w.0.keys4 in
-    simp (
-      ne_eqb n 0 (λ q. omega arith),
-      ne_eqb n 1 (λ q. omega arith),
-      ne_eqb n 2 (λ q. omega arith),
-      eq-eqb n 3 k,
-      w.1,
-      w.2,
-      w.3,
-      w.4,
-    ))
-    (λ w.
-    let r = w.0.rest in
-    simp (ne_eqb n 0 r.0.0.0.1, ne_eqb n 1 r.0.0.1, ne_eqb n 2 r.0.1, ne_eqb n 3 r.1, w.1, w.2, w.3, w.4)))))
-    d.match-count.branch-raw
+    elim d.match-count.branch [
+      in-0 w ↦ simp (eq-eqb n 0 w.in-0.is, w.first-is, w.second-is, w.third-is, w.fourth-is)
+    | in-1 w ↦ let k = w.in-1.is in simp (ne_eqb n 0 (λ q. omega arith), eq-eqb n 1 k, w.first-is, w.second-is, w.third-is, w.fourth-is)
+    | in-2 w ↦
+        let k = w.in-2.is in
+        simp (ne_eqb n 0 (λ q. omega arith), ne_eqb n 1 (λ q. omega arith), eq-eqb n 2 k, w.first-is, w.second-is, w.third-is, w.fourth-is)
+    | in-3 w ↦
+        let k = w.in-3.is in
+        simp (
+          ne_eqb n 0 (λ q. omega arith),
+          ne_eqb n 1 (λ q. omega arith),
+          ne_eqb n 2 (λ q. omega arith),
+          eq-eqb n 3 k,
+          w.first-is,
+          w.second-is,
+          w.third-is,
+          w.fourth-is,
+        )
+    | in_default w ↦
+        let r = w.in_default.in_default-own.rest in
+        simp (ne_eqb n 0 r.0.0.0.1, ne_eqb n 1 r.0.0.1, ne_eqb n 2 r.0.1, ne_eqb n 3 r.1, w.first-is, w.second-is, w.third-is, w.fourth-is)
+    ]
 
 -- how reading goes on from where an argument may start
 told :
@@ -156,17 +157,17 @@ returns-then-one c =
 
 -- the cursor behind a `,` is further on
 past-comma :
-    (d : In-Comma-2)
+    (d : In-Comma)
     → let n = d.in-Comma.next.at in
     (d.loop-arg.from.at < n) × (n ≤ length d.args.text.now)
 unfolding ArgFurther AfterFurther
 past-comma d =
-    let f = further (goal.at.In-Comma-2 d).In-Arg in
+    let f = further (goal.at.In-Comma d).In-Arg in
     let h = subst (AfterFurther _ _) d.in-Comma.is d.after_argument.ensures.after_further in
     (omega (arith, f.0, h.0), h.1)
 
 pub loop-arg-smaller : goal.loop-arg-smaller
-loop-arg-smaller c = let f = past-comma (goal.at.loop-arg-smaller c).In-Comma-2 in omega (arith, f.0, f.1)
+loop-arg-smaller c = let f = past-comma (goal.at.loop-arg-smaller c).In-Comma in omega (arith, f.0, f.1)
 
 pub loop-arg-preserved : goal.loop-arg-preserved
 unfolding after_then
@@ -175,7 +176,7 @@ loop-arg-preserved c =
     let s = a.text.now in
     let g = c.loop-arg.invariant in
     let x = arg_in s c.in-Arg.arg in
-    let f = past-comma (goal.at.loop-arg-preserved c).In-Comma-2 in
+    let f = past-comma (goal.at.loop-arg-preserved c).In-Comma in
     let many : takes_one a.head ≡ false = sym c.takes_one-one.ensures ∙ c.if-one.false in
     record {
       before = read_now (goal.at.loop-arg-preserved c).Joined-count;
@@ -216,7 +217,7 @@ returns-in-Refused-after_argument c =
 
 -- how reading goes on from a `)` in the place of an argument
 shut :
-    (d : In-Close-2) (k : Name)
+    (d : In-Close) (k : Name)
     → let a = d.args in
     let s = a.text.now in
     read_in a.limit s (syntax.argument (call_of s k a.head [])) a.cur.at
@@ -225,7 +226,7 @@ unfolding arg_then
 shut d k =
     let a = d.args in
     let s = a.text.now in
-    told (goal.at.In-Close-2 d).After-argument k ∙ ap (arg_then a.limit s (call_of s k a.head d.loop-arg.invariant.before)) d.in-Close.is
+    told (goal.at.In-Close d).After-argument k ∙ ap (arg_then a.limit s (call_of s k a.head d.loop-arg.invariant.before)) d.in-Close.is
 
 pub returns-then-one-2 : goal.returns-then-one-2
 returns-then-one-2 c =
@@ -233,7 +234,7 @@ returns-then-one-2 c =
     let s = a.text.now in
     let q = misplaced_then a.limit a.cur.at c.in-Close.o c.in-Close.next.at s c.misplaced_at-then-one-2.result c.misplaced_at-then-one-2.ensures in record {
       at_value = (λ k.
-          shut (goal.at.returns-then-one-2 c).In-Close-2 k
+          shut (goal.at.returns-then-one-2 c).In-Close k
           ∙ ap (λ (t : Step). step_in a.limit s t c.in-Close.next.at)
           (empty-one s k a.limit c.in-Close.o a.head c.loop-arg.invariant.before (sym c.takes_one-one.ensures ∙ c.if-one-2.true))
           ∙ q.0 k);
@@ -247,7 +248,7 @@ returns-then-count-ne0 c =
     let g = c.loop-arg.invariant in
     let q = misplaced_then a.limit a.cur.at c.in-Close.o c.in-Close.next.at s c.misplaced_at-then-count-ne0.result c.misplaced_at-then-count-ne0.ensures in record {
       at_value = (λ k.
-          shut (goal.at.returns-then-count-ne0 c).In-Close-2 k
+          shut (goal.at.returns-then-count-ne0 c).In-Close k
           ∙ ap (λ (t : Step). step_in a.limit s t c.in-Close.next.at)
           (empty_some s k a.limit c.in-Close.o a.head (held_before (goal.at.returns-then-count-ne0 c).At-loop-arg) g.before g.held c.if-count-ne0.true)
           ∙ q.0 k);
@@ -262,7 +263,7 @@ returns-in-Close c =
     let g = c.loop-arg.invariant in
     let f = subst (ArgFurther s c.loop-arg.from.at) c.in-Close.is c.argument.ensures.arg_further in record {
       at_value = (λ k.
-          shut (goal.at.returns-in-Close c).In-Close-2 k
+          shut (goal.at.returns-in-Close c).In-Close k
           ∙ ap (λ (t : Step). step_in a.limit s t c.in-Close.next.at)
           (empty-none s k a.limit c.in-Close.o a.head (held_before (goal.at.returns-in-Close c).At-loop-arg) g.before g.held
           (sym c.takes_one-one.ensures ∙ c.if-one-2.false) c.if-count-ne0.false));

@@ -12,7 +12,7 @@ use Rattle.read_statements.specs.declared.NextRead.TheVariants as nextRead
 use Rattle.read_statements.specs.Answers.{reading_at, next_then, NextFurther}
 use Rattle.read_text.specs.Answers.{nth_as}
 use Rattle.read_text.proofs.Indexes.{Sought, none_passed, kept_here, passed_by, found-kept, found_none, found-refused}
-use Rattle.read_text.proofs.nth.Goals.{In-Statement, Joined-n-index}
+use Rattle.read_text.proofs.nth.Goals.{In-Statement, Joined-n-index, then-n-index, else-n-index}
 use Rattle.read_text.proofs.nth.Goals as goal
 
 -- the statement that was read, and what is left behind it
@@ -42,14 +42,18 @@ Behind d k form =
 
 sought_behind :
     (c : Joined-n-index)
-    → Behind (goal.at.Joined-n-index c).In-Statement (suc c.loop-form.n) c.if-n-index.auto
+    → Behind (goal.at.Joined-n-index c).In-Statement (suc c.loop-form.n) c.if-n-index.kept
 sought_behind c =
     let n = suc c.loop-form.n in
     let g = c.loop-form.invariant.sought in
-    ⊎_elim
-    (λ w. subst (Behind (goal.at.Joined-n-index c).In-Statement n) (sym w.1) (kept_here g _ _ (told (goal.at.Joined-n-index c).In-Statement) w.0.taken))
-    (λ w. subst (Behind (goal.at.Joined-n-index c).In-Statement n) (sym w.1) (passed_by g _ _ (told (goal.at.Joined-n-index c).In-Statement) w.0.left))
-    c.if-n-index.branch-raw
+    elim c.if-n-index.branch [
+      then-n-index w ↦
+        subst (Behind (goal.at.Joined-n-index c).In-Statement n) (sym w.kept-is)
+        (kept_here g _ _ (told (goal.at.Joined-n-index c).In-Statement) w.if-n-index.true)
+    | else-n-index w ↦
+        subst (Behind (goal.at.Joined-n-index c).In-Statement n) (sym w.kept-is)
+        (passed_by g _ _ (told (goal.at.Joined-n-index c).In-Statement) w.if-n-index.false)
+    ]
 
 pub loop-form-init : goal.loop-form-init
 loop-form-init c = record { sought = rw c.new-cur.ensures (none_passed _ _ _); few = omega arith }
@@ -72,7 +76,7 @@ unfolding NextFurther
 loop-form-preserved c =
     let f = further (goal.at.loop-form-preserved c).In-Statement in
     record {
-      sought = subst (λ (k : ℕ). Behind (goal.at.loop-form-preserved c).In-Statement k c.if-n-index.auto) (sym (add-one c.loop-form.n)) (sought_behind (goal.at.loop-form-preserved c).Joined-n-index);
+      sought = subst (λ (k : ℕ). Behind (goal.at.loop-form-preserved c).In-Statement k c.if-n-index.kept) (sym (add-one c.loop-form.n)) (sought_behind (goal.at.loop-form-preserved c).Joined-n-index);
       few = omega (arith, f.0, c.loop-form.invariant.few);
     }
 

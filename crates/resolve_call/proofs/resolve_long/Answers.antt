@@ -14,7 +14,7 @@ use Rattle.resolve_settling.specs.Attempts.{StaysWritten, AttemptAs, Roomy}
 use Rattle.resolve_settling.proofs.Answering.{refused_answers, same_answers}
 use Rattle.resolve_call.proofs.Bench.{told-few, told-stand, answers-put}
 use Rattle.resolve_call.proofs.There.{text-there, text_resolved}
-use Rattle.resolve_call.proofs.resolve_long.Goals.{In-Answer-2, In-Tally-2}
+use Rattle.resolve_call.proofs.resolve_long.Goals.{In-Answer, In-Tally}
 use Rattle.resolve_call.proofs.resolve_long.Goals as goal
 
 pub take_text-requires : goal.take_text-requires
@@ -36,7 +36,7 @@ returns-in-Full c =
 
 -- what was taken
 unfoldable there :
-    (t : In-Tally-2)
+    (t : In-Tally)
     → let a = t.args in
     StaysWritten (handed_context a.block.now a.lists.now) t.in-Tally.tally
     t.take_text.last.1.1.1.1.1.1.1.1.1.0 t.take_text.last.1.1.1.1.1.1.1.1.0
@@ -48,7 +48,7 @@ there t =
 
 -- the text resolves to what that comes to
 resolved_to :
-    (t : In-Tally-2)
+    (t : In-Tally)
     → let a = t.args in
     resolve_handed a.limit a.block.now a.lists.now a.text.now
     ≡ merge_and_ground (handed_context a.block.now a.lists.now) (there t).there.what
@@ -59,7 +59,7 @@ resolved_to t =
 
 -- what is made is as long as it was
 room :
-    (t : In-Tally-2)
+    (t : In-Tally)
     → length t.take_text.last.1.1.1.1.1.1.1.1.1.1.0 ≡ length t.no_text-made.result
 unfolding TakenAs
 room t =
@@ -79,20 +79,20 @@ settle-requires c =
       c.requires.1,
       c.requires.2,
       record { is = h.handed; there = c.read_layout.ensures },
-      there (goal.at.settle-requires c).In-Tally-2,
+      there (goal.at.settle-requires c).In-Tally,
       omega (arith, same-room h.brought.added.terms, c.no_bench-bench.ensures),
     )
 
 -- the answer, from the bench
 answered :
-    (x : In-Answer-2)
+    (x : In-Answer)
     → let a = x.args in
-    Answers (merge_and_ground (handed_context a.block.now a.lists.now) (there (goal.at.In-Answer-2 x).In-Tally-2).there.what) a.ground.now a.room a.notes.now
-    x.settle.new.1.1.1.1.1.1.1.1.0 x.settle.new.1.1.1.1.1.1.1.1.1.1.0
-    x.settle.new.1.1.1.1.1.1.1.1.1.1.1.0 x.in-Answer.resolved
+    Answers (merge_and_ground (handed_context a.block.now a.lists.now) (there (goal.at.In-Answer x).In-Tally).there.what) a.ground.now a.room a.notes.now
+    x.settle.new.ground x.settle.new.notes
+    x.settle.new.bench x.in-Answer.resolved
 unfolding AttemptAs
 answered x =
-    subst (AttemptAs _ _ _ _ _ _ _) x.in-Answer.is (x.settle.ensures.0 (there (goal.at.In-Answer-2 x).In-Tally-2))
+    subst (AttemptAs _ _ _ _ _ _ _) x.in-Answer.is (x.settle.ensures.0 (there (goal.at.In-Answer x).In-Tally))
 
 -- the effects stand on the bench, and there is room for as many in the working buffer
 pub put_packed-requires : goal.put_packed-requires
@@ -102,16 +102,16 @@ put_packed-requires c =
       omega (
         arith,
         c.effect_count.ensures,
-        told-few result (handed_context a.block.now a.lists.now) (there (goal.at.put_packed-requires c).In-Tally-2).there.what (answered (goal.at.put_packed-requires c).In-Answer-2),
+        told-few result (handed_context a.block.now a.lists.now) (there (goal.at.put_packed-requires c).In-Tally).there.what (answered (goal.at.put_packed-requires c).In-Answer),
         c.requires.4,
       ),
-      omega (arith, c.effect_count.ensures, told-stand result (answered (goal.at.put_packed-requires c).In-Answer-2)),
+      omega (arith, c.effect_count.ensures, told-stand result (answered (goal.at.put_packed-requires c).In-Answer)),
     )
 
 pub returns-in-Answer : goal.returns-in-Answer
 returns-in-Answer c =
     let result = c.in-Answer.resolved in
-    answers-put result (same_answers result (resolved_to (goal.at.returns-in-Answer c).In-Tally-2) (answered (goal.at.returns-in-Answer c).In-Answer-2)) c.args.work.now c.effect_count.ensures
+    answers-put result (same_answers result (resolved_to (goal.at.returns-in-Answer c).In-Tally) (answered (goal.at.returns-in-Answer c).In-Answer)) c.args.work.now c.effect_count.ensures
     c.put_packed.ensures
 
 -- there is room for every ground text
@@ -119,4 +119,4 @@ pub returns-in-NoRoom : goal.returns-in-NoRoom
 unfolding Roomy
 returns-in-NoRoom c =
     let small = subst (Roomy _) c.in-NoRoom.is c.settle.ensures.1 in
-    absurd (omega (arith, small, room (goal.at.returns-in-NoRoom c).In-Tally-2, c.no_text-made.ensures))
+    absurd (omega (arith, small, room (goal.at.returns-in-NoRoom c).In-Tally, c.no_text-made.ensures))

@@ -75,24 +75,24 @@ pub both_of-requires : goal.both_of-requires
 unfolding layout_of
 both_of-requires c =
     let s = second (goal.at.both_of-requires c).After-in_order-2 in
-    subst (λ (y : Layout). y.template.count ≤ 64) (sym s.pre.1) (heads_of s.args.lists.now s.pre.2).template
+    subst (λ (y : Layout). y.template.count ≤ 64) (sym s.requires.1) (heads_of s.args.lists.now s.requires.2).template
 
 pub in_order-requires-3 : goal.in_order-requires-3
 in_order-requires-3 c =
     let s = second (goal.at.in_order-requires-3 c).After-in_order-2 in
-    (s.pre.0, subst (InRun s.args.lists.now) (sym c.both_of.ensures) (in_run s (λ y. both_of y.template) (both_in _ s.pre.3)))
+    (s.requires.0, subst (InRun s.args.lists.now) (sym c.both_of.ensures) (in_run s (λ y. both_of y.template) (both_in _ s.requires.3)))
 
 pub returns-then-not-in_order-3 : goal.returns-then-not-in_order-3
 returns-then-not-in_order-3 c = sym (template_amiss _ _ (sym (template-told (goal.at.returns-then-not-in_order-3 c).After-in_order-3) ∙ c.if-not-in_order-3.true))
 
 pub in_order-requires-4 : goal.in_order-requires-4
-in_order-requires-4 c = let s = third (goal.at.in_order-requires-4 c).After-in_order-3 in (s.pre.0, in_run s (λ y. y.declared) (declared_in _ s.pre.3))
+in_order-requires-4 c = let s = third (goal.at.in_order-requires-4 c).After-in_order-3 in (s.requires.0, in_run s (λ y. y.declared) (declared_in _ s.requires.3))
 
 pub returns-then-not-in_order-4 : goal.returns-then-not-in_order-4
 returns-then-not-in_order-4 c = sym (declared_amiss _ _ (sym (declared-told (goal.at.returns-then-not-in_order-4 c).After-in_order-4) ∙ c.if-not-in_order-4.true))
 
 pub in_order-requires-5 : goal.in_order-requires-5
-in_order-requires-5 c = let s = fourth (goal.at.in_order-requires-5 c).After-in_order-4 in (s.pre.0, in_run s (λ y. y.columns) (columns_in _ s.pre.3))
+in_order-requires-5 c = let s = fourth (goal.at.in_order-requires-5 c).After-in_order-4 in (s.requires.0, in_run s (λ y. y.columns) (columns_in _ s.requires.3))
 
 pub returns-then-not-in_order-5 : goal.returns-then-not-in_order-5
 returns-then-not-in_order-5 c = sym (columns_amiss _ _ (sym (columns-told (goal.at.returns-then-not-in_order-5 c).After-in_order-5) ∙ c.if-not-in_order-5.true))
@@ -102,7 +102,7 @@ unfolding layout_of
 kinds_fit-requires c =
     let s = fifth (goal.at.kinds_fit-requires c).After-in_order-5 in
     let l = s.args.lists.now in
-    subst (λ (y : Layout). y.declared.start + 3 * y.declared.count ≤ length l) (sym s.pre.1) (declared_in l s.pre.3).within
+    subst (λ (y : Layout). y.declared.start + 3 * y.declared.count ≤ length l) (sym s.requires.1) (declared_in l s.requires.3).within
 
 pub returns : goal.returns
 returns c =

@@ -36,10 +36,10 @@ call s =
 
 -- the arrays that were lent
 abbrev lent : After-parameters_of → List ℕ
-lent p = p.parameters_of.new.1.1.1.1.1.1.1.1.0
+lent p = p.parameters_of.new.indexes
 
 abbrev lent_2 : After-covariates_of → List ℕ
-lent_2 v = v.covariates_of.new.1.1.1.1.1.1.1.0
+lent_2 v = v.covariates_of.new.indexes
 
 -- what the operands answered, by the layout that was handed
 looked : (p : After-parameters_of) {r : Entries} → p.parameters_of.result ≡ r
@@ -55,13 +55,13 @@ looked_2 : (v : After-covariates_of) {r : Entries} → v.covariates_of.result �
     → let s = top v in EntriesAs (covariates_of s.args.layout).count (second_of (call s)) (lent_2 v) r
 looked_2 v e =
     let s = top v in
-    subst₂ (λ (y : Layout) (x : Entries). EntriesAs (covariates_of y).count (second_of (call s)) (lent_2 v) x) (sym s.pre.1.there) e
+    subst₂ (λ (y : Layout) (x : Entries). EntriesAs (covariates_of y).count (second_of (call s)) (lent_2 v) x) (sym s.requires.1.there) e
     v.covariates_of.ensures
 
 -- the first has indexes
 module _ (k : In-Count) where
   abbrev answered : After-parameters_of
-  answered = k
+  answered = (goal.at.In-Count k).After-parameters_of
 
   abbrev own : ℕ
   own = k.in-Count.count
@@ -75,7 +75,7 @@ module _ (k : In-Count) where
 -- and the other has
 module _ (k : In-Count-covariates_of) where
   abbrev answered_2 : After-covariates_of
-  answered_2 = k
+  answered_2 = (goal.at.In-Count-covariates_of k).After-covariates_of
 
   abbrev others : ℕ
   others = k.in-Count-covariates_of.count
@@ -99,8 +99,8 @@ module _ (k : In-Count-covariates_of) where
         first = (picked firstly).found;
         second = picked_2.found;
         indexes =
-            indexes-more (picked firstly).indexes (parameters_sound a.block.now a.lists.now a.layout begun.pre.1).few;
-        indexes_2 = indexes-more picked_2.indexes (covariates_sound a.block.now a.lists.now a.layout begun.pre.1).few;
+            indexes-more (picked firstly).indexes (parameters_sound a.block.now a.lists.now a.layout begun.requires.1).few;
+        indexes_2 = indexes-more picked_2.indexes (covariates_sound a.block.now a.lists.now a.layout begun.requires.1).few;
       }
 
 pub parameters_of-requires : goal.parameters_of-requires
@@ -110,7 +110,7 @@ parameters_of-requires c =
 pub covariates_of-requires : goal.covariates_of-requires
 covariates_of-requires c =
     let s = start (answered (goal.at.covariates_of-requires c).In-Count) in
-    (s.pre.0, s.pre.1.is, s.pre.2, s.pre.4, refl)
+    (s.requires.0, s.requires.1.is, s.requires.2, s.requires.4, refl)
 
 pub returns-in-Refused : goal.returns-in-Refused
 unfolding CovariateAs
@@ -143,7 +143,7 @@ pub slice_bounds-second-end : goal.slice_bounds-second-end
 slice_bounds-second-end g = let q = picked_2 (goal.at.slice_bounds-second-end g).In-Count-covariates_of in omega (arith, q.few, q.size)
 
 pub any_against-requires : goal.any_against-requires
-any_against-requires c = ((begun (goal.at.any_against-requires c).In-Count-covariates_of).pre.1, (picked_2 (goal.at.any_against-requires c).In-Count-covariates_of).indexes)
+any_against-requires c = ((begun (goal.at.any_against-requires c).In-Count-covariates_of).requires.1, (picked_2 (goal.at.any_against-requires c).In-Count-covariates_of).indexes)
 
 pub returns-then-any_against : goal.returns-then-any_against
 unfolding CovariateAs
@@ -162,11 +162,11 @@ put_terms-requires c =
     let s = begun k in
     let a = s.args in
     let few = numbers-few (found k) c.head_of-head.result in (
-      s.pre.1,
+      s.requires.1,
       (found k).indexes,
       (picked_2 k).indexes,
-      omega (arith, c.head_of-head.ensures, head_small a.index c.is_named.result (op_as a.op) a.optional s.pre.6),
-      omega (arith, s.pre.7, few),
+      omega (arith, c.head_of-head.ensures, head_small a.index c.is_named.result (op_as a.op) a.optional s.requires.6),
+      omega (arith, s.requires.7, few),
     )
 
 pub returns : goal.returns
@@ -174,7 +174,7 @@ unfolding CovariateAs
 returns c =
     let s = begun (goal.at.returns c).In-Count-covariates_of in
     let a = s.args in
-    covariate-termed (found (goal.at.returns c).In-Count-covariates_of) (some_own (goal.at.returns c).Else-own-eq0) (some_others (goal.at.returns c).Else-others-eq0) c.any_against.ensures c.if-any_against.false s.pre.5 a.index s.pre.6
+    covariate-termed (found (goal.at.returns c).In-Count-covariates_of) (some_own (goal.at.returns c).Else-own-eq0) (some_others (goal.at.returns c).Else-others-eq0) c.any_against.ensures c.if-any_against.false s.requires.5 a.index s.requires.6
     (c.head_of-head.ensures ∙ ap (λ (x : Bool). head_number a.index x (op_as a.op) a.optional) (c.is_named.ensures a.text.now))
     c.put_terms.ensures
 
@@ -182,7 +182,7 @@ pub slice_bounds-any_against-end : goal.slice_bounds-any_against-end
 slice_bounds-any_against-end c = sym (picked_many (picked_2 (goal.at.slice_bounds-any_against-end c).In-Count-covariates_of))
 
 pub head_of-head-requires : goal.head_of-head-requires
-head_of-head-requires c = (begun (passed c)).pre.6
+head_of-head-requires c = (begun (passed c)).requires.6
 
 pub slice_bounds-put_terms-end : goal.slice_bounds-put_terms-end
 slice_bounds-put_terms-end c = sym (picked_many (picked (firstly (passed c))))

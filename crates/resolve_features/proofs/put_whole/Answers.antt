@@ -20,7 +20,7 @@ use Rattle.resolve_grounding.specs.Whole.{WholeParts}
 use Rattle.resolve_features.specs.declared.Alone.TheVariants as argument
 use Rattle.resolve_features.specs.Stays.{AloneAs, alone_bytes}
 use Rattle.resolve_features.proofs.Staying.{whole_of, alone_bytes_lem}
-use Rattle.resolve_features.proofs.put_whole.Goals.{After-put_joint-next, After-whole_parts-parts, In-Modes-2, Start}
+use Rattle.resolve_features.proofs.put_whole.Goals.{After-put_joint-next, After-whole_parts-parts, In-Modes, Start}
 use Rattle.resolve_features.proofs.put_whole.Goals as goal
 
 abbrev whole_bytes : Start → List ℕ
@@ -36,24 +36,24 @@ left-room c = room-left {left = whole_bytes (goal.at.After-put_joint-next c).Sta
 
 -- Modes alone.
 alone_parts :
-    (c : In-Modes-2)
+    (c : In-Modes)
     → AloneAs c.args.feature (argument.Modes c.in-Modes.keyword c.in-Modes.family c.in-Modes.modes)
 alone_parts c =
     subst (AloneAs c.args.feature) c.in-Modes.is c.Alone-of.ensures
 
 alone-same :
-    (c : In-Modes-2)
-    → whole_bytes (goal.at.In-Modes-2 c).Start ≡ alone_bytes c.in-Modes.keyword c.in-Modes.family c.in-Modes.modes
+    (c : In-Modes)
+    → whole_bytes (goal.at.In-Modes c).Start ≡ alone_bytes c.in-Modes.keyword c.in-Modes.family c.in-Modes.modes
 alone-same c =
     alone_bytes_lem c.args.text.now c.args.feature _ _ _ (alone_parts c).0
 
 pub put_alone-requires : goal.put_alone-requires
 put_alone-requires c =
-    (c.requires.1, c.requires.2, (alone_parts (goal.at.put_alone-requires c).In-Modes-2).1, room-same c.put_joint-next.result (alone-same (goal.at.put_alone-requires c).In-Modes-2) (left-room (goal.at.put_alone-requires c).After-put_joint-next))
+    (c.requires.1, c.requires.2, (alone_parts (goal.at.put_alone-requires c).In-Modes).1, room-same c.put_joint-next.result (alone-same (goal.at.put_alone-requires c).In-Modes) (left-room (goal.at.put_alone-requires c).After-put_joint-next))
 
 pub returns-in-Modes : goal.returns-in-Modes
 returns-in-Modes c =
-    finished (further (going _ _ _) c.put_joint-next.ensures) (rw (alone-same (goal.at.returns-in-Modes c).In-Modes-2) c.put_alone.ensures)
+    finished (further (going _ _ _) c.put_joint-next.ensures) (rw (alone-same (goal.at.returns-in-Modes c).In-Modes) c.put_alone.ensures)
 
 made : (c : After-whole_parts-parts) → WholeParts (apart (statement.Feature (joint_start c).args.feature)) c.whole_parts-parts.result
 made c =

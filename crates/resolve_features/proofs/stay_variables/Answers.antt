@@ -29,7 +29,7 @@ use Rattle.resolve_features.proofs.stay_variables.Goals as goal
 -- what the operand answered, with the array that was lent
 module _ (p : After-parameters_of) where
   abbrev lent : List ℕ
-  lent = p.parameters_of.new.1.1.1.1.1.1.1.1.0
+  lent = p.parameters_of.new.indexes
 
   abbrev operand : Answer (List ℕ)
   operand =
@@ -47,7 +47,7 @@ returns-in-Refused c = (looked (goal.at.returns-in-Refused c).After-parameters_o
 -- it has indexes
 module _ (k : In-Count) where
   abbrev answered : After-parameters_of
-  answered = k
+  answered = (goal.at.In-Count k).After-parameters_of
 
   abbrev count : ℕ
   count = k.in-Count.count
@@ -81,7 +81,7 @@ own-short k =
     omega (
       arith,
       variables_short (handed_context a.block.now a.lists.now).parameters
-          (names-short a.block.now a.lists.now (layout_of a.lists.now) (record { is = s.pre.3; there = refl }))
+          (names-short a.block.now a.lists.now (layout_of a.lists.now) (record { is = s.requires.3; there = refl }))
           (list k) (picked k).indexes.few a.family (whole a.family (modes_in a.modes))
           (whole-few a.family a.modes) a.keyword a.optional a.named,
     )
@@ -93,13 +93,13 @@ begun e = start (answered (goal.at.Else-count-least e).In-Count)
 pub put_joint-next-requires : goal.put_joint-next-requires
 put_joint-next-requires c =
     let s = begun (goal.at.put_joint-next-requires c).Else-count-least in
-    room-first (joint_of s.args.before) (own (goal.at.put_joint-next-requires c).In-Count) (piece-room s.args.before (own (goal.at.put_joint-next-requires c).In-Count) (own-short (goal.at.put_joint-next-requires c).In-Count) s.args.at s.pre.7)
+    room-first (joint_of s.args.before) (own (goal.at.put_joint-next-requires c).In-Count) (piece-room s.args.before (own (goal.at.put_joint-next-requires c).In-Count) (own-short (goal.at.put_joint-next-requires c).In-Count) s.args.at s.requires.7)
     (going s.args.out.now s.args.at _)
 
 -- with the layout
 module _ (y : After-read_layout-layout) where
   abbrev told : In-Count
-  told = y
+  told = (goal.at.After-read_layout-layout y).In-Count
 
   abbrev top : Start
   top = start (answered told)
@@ -108,7 +108,7 @@ module _ (y : After-read_layout-layout) where
   layout = y.read_layout-layout.result
 
   stands : let a = top.args in Stands a.block.now a.lists.now layout
-  stands = record { is = top.pre.3; there = y.read_layout-layout.ensures }
+  stands = record { is = top.requires.3; there = y.read_layout-layout.ensures }
 
   -- the bytes as the code has them
   same :
@@ -127,13 +127,13 @@ pub put_variables-requires : goal.put_variables-requires
 put_variables-requires c =
     let k = told (goal.at.put_variables-requires c).After-read_layout-layout in
     let s = top (goal.at.put_variables-requires c).After-read_layout-layout in (
-      s.pre.1,
-      s.pre.2,
+      s.requires.1,
+      s.requires.2,
       parameters_sound s.args.block.now s.args.lists.now (layout (goal.at.put_variables-requires c).After-read_layout-layout) (stands (goal.at.put_variables-requires c).After-read_layout-layout),
       subst (λ (l : Layout). Indexes l.parameters.count (list k)) (sym c.read_layout-layout.ensures) (picked k).indexes,
-      s.pre.6,
+      s.requires.6,
       room-same c.put_joint-next.result (same (goal.at.put_variables-requires c).After-read_layout-layout)
-          (room-left {left = own k} (piece-room s.args.before (own k) (own-short k) s.args.at s.pre.7)
+          (room-left {left = own k} (piece-room s.args.before (own k) (own-short k) s.args.at s.requires.7)
           (further (going _ _ _) c.put_joint-next.ensures)),
     )
 
@@ -145,7 +145,7 @@ returns c =
     record {
       indexes = list k;
       found = (picked k).found;
-      enough = le-ltb (length (list k)) s.args.least (omega (arith, c.if-count-least.left, picked_many (picked k)));
+      enough = le-ltb (length (list k)) s.args.least (omega (arith, c.if-count-least.false, picked_many (picked k)));
       written = finished (further (going _ _ _) c.put_joint-next.ensures) (rw (same (goal.at.returns c).After-read_layout-layout) c.put_variables.ensures);
       small = piece-small s.args.before (own k) (own-short k);
     }

@@ -91,7 +91,7 @@ covariate-found c =
     c.name_at-2.ensures
     ∙ rw c.covariates.ensures
     (ap (λ (l : List (List ℕ)). get_or l s.args.covariate [])
-    (sym (covariates-are s.args.block.now s.args.lists.now s.args.layout s.pre.2)))
+    (sym (covariates-are s.args.block.now s.args.lists.now s.args.layout s.requires.2)))
 
 -- What is left at the start, and behind each piece.
 at_start : (s : Start) → Left s s.args.out.now s.args.at (head s ++ from_parameter s)
@@ -100,31 +100,31 @@ at_start s =
     (group-bytes (context s) s.args.parameter s.args.covariate (places s.args.packed) s.args.operator s.args.optional)
     (going _ _ _)
 
-behind_head : (c : After-put_head-inside) → Left (goal.at.After-put_head-inside c).Start c.put_head-inside.new.1.1.1.0 c.put_head-inside.result (from_parameter (goal.at.After-put_head-inside c).Start)
+behind_head : (c : After-put_head-inside) → Left (goal.at.After-put_head-inside c).Start c.put_head-inside.new.out c.put_head-inside.result (from_parameter (goal.at.After-put_head-inside c).Start)
 behind_head c = further (at_start (goal.at.After-put_head-inside c).Start) c.put_head-inside.ensures
 
 behind-parameter :
-    (c : After-put_all-one) → Left (parameter-start c) c.put_all-one.new.0 c.put_all-one.result (bytes "," ++ from_covariate (parameter-start c))
+    (c : After-put_all-one) → Left (parameter-start c) c.put_all-one.new.out c.put_all-one.result (bytes "," ++ from_covariate (parameter-start c))
 behind-parameter c =
     further (behind_head (goal.at.After-put_all-one c).After-put_head-inside) (rw (parameter-found (goal.at.After-put_all-one c).After-name_at) at c.put_all-one.ensures)
 
-behind-comma : (c : After-put-comma) → Left (comma-start c) c.put-comma.new.0 c.put-comma.result (from_covariate (comma-start c))
+behind-comma : (c : After-put-comma) → Left (comma-start c) c.put-comma.new.out c.put-comma.result (from_covariate (comma-start c))
 behind-comma c = further (behind-parameter (goal.at.After-put-comma c).After-put_all-one) c.put-comma.ensures
 
 behind-covariate :
-    (c : After-put_all-two) → Left (covariate-start c) c.put_all-two.new.0 c.put_all-two.result (bytes "," ++ from_effects (covariate-start c))
+    (c : After-put_all-two) → Left (covariate-start c) c.put_all-two.new.out c.put_all-two.result (bytes "," ++ from_effects (covariate-start c))
 behind-covariate c =
     further (behind-comma (goal.at.After-put_all-two c).After-put-comma) (rw (covariate-found (goal.at.After-put_all-two c).After-name_at-2) at c.put_all-two.ensures)
 
-behind-comma_2 : (c : After-put-again) → Left (comma-start_2 c) c.put-again.new.0 c.put-again.result (from_effects (comma-start_2 c))
+behind-comma_2 : (c : After-put-again) → Left (comma-start_2 c) c.put-again.new.out c.put-again.result (from_effects (comma-start_2 c))
 behind-comma_2 c = further (behind-covariate (goal.at.After-put-again c).After-put_all-two) c.put-again.ensures
 
 behind-effects :
-    (c : After-put_modes-three) → Left (effects-start c) c.put_modes-three.new.1.1.1.0 c.put_modes-three.result (from_sign (effects-start c))
+    (c : After-put_modes-three) → Left (effects-start c) c.put_modes-three.new.out c.put_modes-three.result (from_sign (effects-start c))
 unfolding modes_in
 behind-effects c = further (behind-comma_2 (goal.at.After-put_modes-three c).After-put-again) c.put_modes-three.ensures
 
-behind-sign : (c : After-put_sign-four) → Left (sign-start c) c.put_sign-four.new.1.0 c.put_sign-four.result (bytes ")")
+behind-sign : (c : After-put_sign-four) → Left (sign-start c) c.put_sign-four.new.out c.put_sign-four.result (bytes ")")
 behind-sign c = further (behind-effects (goal.at.After-put_sign-four c).After-put_modes-three) c.put_sign-four.ensures
 
 -- The needs: each piece has room, since all of what is left has.
@@ -144,33 +144,33 @@ put_all-one-requires c =
 pub put-comma-requires : goal.put-comma-requires
 put-comma-requires c =
     let s = parameter-start (goal.at.put-comma-requires c).After-put_all-one in
-    room-first (bytes ",") (from_covariate s) s.pre.5 (behind-parameter (goal.at.put-comma-requires c).After-put_all-one)
+    room-first (bytes ",") (from_covariate s) s.requires.5 (behind-parameter (goal.at.put-comma-requires c).After-put_all-one)
 
 pub name_at-requires-2 : goal.name_at-requires-2
 name_at-requires-2 c =
     let s = comma-start (goal.at.name_at-requires-2 c).After-put-comma in
-    rw c.covariates.ensures (s.pre.4, covariates_sound s.args.block.now s.args.lists.now s.args.layout s.pre.2)
+    rw c.covariates.ensures (s.requires.4, covariates_sound s.args.block.now s.args.lists.now s.args.layout s.requires.2)
 
 pub put_all-two-requires : goal.put_all-two-requires
 put_all-two-requires c =
     let s = comma-start (goal.at.put_all-two-requires c).After-put-comma in
-    room-same _ (sym (covariate-found (goal.at.put_all-two-requires c).After-name_at-2)) (room-first (covariate s) (bytes "," ++ from_effects s) s.pre.5 (behind-comma (goal.at.put_all-two-requires c).After-put-comma))
+    room-same _ (sym (covariate-found (goal.at.put_all-two-requires c).After-name_at-2)) (room-first (covariate s) (bytes "," ++ from_effects s) s.requires.5 (behind-comma (goal.at.put_all-two-requires c).After-put-comma))
 
 pub put-again-requires : goal.put-again-requires
 put-again-requires c =
     let s = covariate-start (goal.at.put-again-requires c).After-put_all-two in
-    room-first (bytes ",") (from_effects s) s.pre.5 (behind-covariate (goal.at.put-again-requires c).After-put_all-two)
+    room-first (bytes ",") (from_effects s) s.requires.5 (behind-covariate (goal.at.put-again-requires c).After-put_all-two)
 
 pub put_modes-three-requires : goal.put_modes-three-requires
 unfolding modes_in
 put_modes-three-requires c =
     let s = comma-start_2 (goal.at.put_modes-three-requires c).After-put-again in
-    (s.pre.0, room-first (effects s) (from_sign s) s.pre.5 (behind-comma_2 (goal.at.put_modes-three-requires c).After-put-again))
+    (s.requires.0, room-first (effects s) (from_sign s) s.requires.5 (behind-comma_2 (goal.at.put_modes-three-requires c).After-put-again))
 
 pub put_sign-four-requires : goal.put_sign-four-requires
 put_sign-four-requires c =
     let s = effects-start (goal.at.put_sign-four-requires c).After-put_modes-three in
-    room-first (sign_bytes s.args.operator) (bytes ")") s.pre.5 (behind-effects (goal.at.put_sign-four-requires c).After-put_modes-three)
+    room-first (sign_bytes s.args.operator) (bytes ")") s.requires.5 (behind-effects (goal.at.put_sign-four-requires c).After-put_modes-three)
 
 pub put-requires : goal.put-requires
 put-requires c =

@@ -8,7 +8,7 @@ use Rattle.resolving.specs.Call.{resolving_call}
 use Rattle.resolve_settling.specs.Answers.{resolved_as, lent}
 use Rattle.print_lines.specs.declared.Sizes.{Sizes}
 use Rattle.resolve_lines.proofs.Accepted.{Left, left_bounded, left-written, refused-written}
-use Rattle.resolve_lines.proofs.resolve_lines.Goals.{After-resolve_under, In-Lengths-2}
+use Rattle.resolve_lines.proofs.resolve_lines.Goals.{After-resolve_under, In-Lengths}
 use Rattle.resolve_lines.proofs.resolve_lines.Goals as goal
 
 -- the call's answer
@@ -17,17 +17,17 @@ answer u =
     let a = u.args in
     resolving_call a.limit a.block.now a.lists.now a.text.now (lent a.ground.now a.effects.now a.notes.now) (length a.work.now)
 
-abbrev sizes : In-Lengths-2 → Sizes
+abbrev sizes : In-Lengths → Sizes
 sizes k = let n = k.in-Lengths.n in record { ground = n.ground; effects = n.effects; notes = n.notes }
 
 -- what it left
 left :
-    (k : In-Lengths-2)
+    (k : In-Lengths)
     → let a = k.args in
     Left a.limit a.block.now a.lists.now a.text.now a.ground.now a.effects.now a.notes.now
     (lent a.ground.now a.effects.now a.notes.now) (length a.work.now) (sizes k)
     k.resolve_under.last.1.1.1.0 k.resolve_under.last.1.1.1.1.0 k.resolve_under.last.1.1.1.1.1.0
-    (answer (goal.at.In-Lengths-2 k).After-resolve_under)
+    (answer (goal.at.In-Lengths k).After-resolve_under)
 unfolding resolved_as
 left k =
     let d = k.resolve_under.ensures in
@@ -41,7 +41,7 @@ left k =
 
 pub put_asked-count-requires : goal.put_asked-count-requires
 put_asked-count-requires c =
-    left_bounded _ _ _ _ _ _ _ _ _ (sizes (goal.at.put_asked-count-requires c).In-Lengths-2) _ _ _ _ (left (goal.at.put_asked-count-requires c).In-Lengths-2)
+    left_bounded _ _ _ _ _ _ _ _ _ (sizes (goal.at.put_asked-count-requires c).In-Lengths) _ _ _ _ (left (goal.at.put_asked-count-requires c).In-Lengths)
 
 pub returns-in-Refused : goal.returns-in-Refused
 unfolding resolved_as
@@ -53,4 +53,4 @@ returns-in-Refused c =
 pub returns-in-Lengths : goal.returns-in-Lengths
 unfolding resolved_as
 returns-in-Lengths c =
-    let d = c.resolve_under.ensures in record { written = left-written _ _ _ _ _ _ _ _ _ (sizes (goal.at.returns-in-Lengths c).In-Lengths-2) _ _ _ c.args.asked (answer (goal.at.returns-in-Lengths c).After-resolve_under) (left (goal.at.returns-in-Lengths c).In-Lengths-2) c.put_asked-count.ensures; leaves = (sym (ap resolved_as c.in-Lengths.is) ∙ d.0, d.1) }
+    let d = c.resolve_under.ensures in record { written = left-written _ _ _ _ _ _ _ _ _ (sizes (goal.at.returns-in-Lengths c).In-Lengths) _ _ _ c.args.asked (answer (goal.at.returns-in-Lengths c).After-resolve_under) (left (goal.at.returns-in-Lengths c).In-Lengths) c.put_asked-count.ensures; leaves = (sym (ap resolved_as c.in-Lengths.is) ∙ d.0, d.1) }

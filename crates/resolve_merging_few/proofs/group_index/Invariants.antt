@@ -5,7 +5,7 @@ use Rattle.resolve_merging_few.specs.Listing.{group_in}
 use Rattle.resolve_merging_few.proofs.group_index.Given as goal
 
 abbrev pub invariant-loop-j : goal.invariant-loop-j
-invariant-loop-j l = (l.j ≤ l.k) × ((l : ℕ) → l < l.j → group_in l.listed l ≡ l.g → ⊥)
+invariant-loop-j l = (l.j ≤ l.k) × ((m : ℕ) → m < l.j → group_in l.listed m ≡ l.g → ⊥)
 
 abbrev pub decreases-loop-j : goal.decreases-loop-j
 decreases-loop-j l = l.k - l.j

@@ -36,7 +36,7 @@ unite_one-one-requires c =
 
 pub overflow_add-i : goal.overflow_add-i
 overflow_add-i c =
-    omega (arith, c.loop-i-test.taken, c.requires.0)
+    omega (arith, c.loop-i-test.true, c.requires.0)
 
 pub loop-i-smaller : goal.loop-i-smaller
 loop-i-smaller c = omega (arith, c.loop-i-test.true)
@@ -44,9 +44,9 @@ loop-i-smaller c = omega (arith, c.loop-i-test.true)
 pub loop-i-preserved : goal.loop-i-preserved
 loop-i-preserved c =
     let p = c.requires in (
-      omega (arith, c.loop-i-test.taken),
-      put-length c.unite_one-one.ensures.put ∙ c.loop-i.inv.1,
-      uniting_next (omega (arith, p.0, c.loop-i-test.taken)) (omega (arith, p.1, c.loop-i-test.taken)) (group-room (goal.at.loop-i-preserved c).In-loop-i).1 c.loop-i.inv.2
+      omega (arith, c.loop-i-test.true),
+      put-length c.unite_one-one.ensures.put ∙ c.loop-i.invariant.1,
+      uniting_next (omega (arith, p.0, c.loop-i-test.true)) (omega (arith, p.1, c.loop-i-test.true)) (group-room (goal.at.loop-i-preserved c).In-loop-i).1 c.loop-i.invariant.2
           c.unite_one-one.ensures,
     )
 

@@ -18,7 +18,7 @@ own-found : (c : Then-j-k)
     → let a = c.args in
     group_in a.listed.now c.group_index-j.result ≡ group_number (bare (get_or a.work.now a.i 0))
 own-found c =
-    c.group_index-j.ensures.there c.if-j-k.true ∙ c.group_of.ensures
+    c.group_index-j.ensures.there c.if-j-k.true ∙ c.group_of-g.ensures
 
 pub with_form-longer-requires : goal.with_form-longer-requires
 with_form-longer-requires c =
@@ -49,13 +49,13 @@ returns-then-j-k c =
 
 pub bounds-listed-k-2 : goal.bounds-listed-k-2
 bounds-listed-k-2 c =
-    omega (arith, c.requires.3, c.requires.4, length-set c.args.listed.now (2 * c.args.k) c.group_of.result)
+    omega (arith, c.requires.3, c.requires.4, length-set c.args.listed.now (2 * c.args.k) c.group_of-g.result)
 
 pub returns : goal.returns
 returns c =
     record {
       again = false;
-      put = behind-put c.group_of.ensures c.group_index-j.ensures c.if-j-k.false (alone 0 _ refl (omega arith));
+      put = behind-put c.group_of-g.ensures c.group_index-j.ensures c.if-j-k.false (alone 0 _ refl (omega arith));
       next = refl;
       numbers = refl;
     }

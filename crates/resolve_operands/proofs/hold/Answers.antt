@@ -21,11 +21,11 @@ use Rattle.resolve_operands.specs.Picked.{Picked}
 use Rattle.resolve_operands.specs.Named.{extent_of, names_at, EntryAt, Word, PlacedAs}
 use Rattle.resolve_operands.proofs.Bringing.{brings-none, brings-pair, brings-nothing, brings-missing, brings-end}
 use Rattle.resolve_operands.proofs.Naming.{all_named, extent_few, first_read}
-use Rattle.resolve_operands.proofs.hold.Goals.{After-place_of, At-loop-i, In-At-2, In-loop-i, Start}
+use Rattle.resolve_operands.proofs.hold.Goals.{After-place_of, At-loop-i, In-At, In-loop-i, Start}
 use Rattle.resolve_operands.proofs.hold.Goals as goal
 
 abbrev begun : At-loop-i → Start
-begun l = l
+begun l = (goal.at.At-loop-i l).Start
 
 module _ (s : Start) where
   abbrev entries : List (List ℕ)
@@ -56,7 +56,7 @@ few : (l : At-loop-i) → l.extent_of-extent.result.count ≤ 64
 few l =
     let s = begun l in
     let f =
-    extent_few s.args.block.now s.args.lists.now s.args.layout s.pre.1 s.args.text.now s.args.source s.pre.2 in
+    extent_few s.args.block.now s.args.lists.now s.args.layout s.requires.1 s.args.text.now s.args.source s.requires.2 in
     omega (arith, counted l, f)
 
 below : (t : In-loop-i) → t.loop-i.i < all (begun (goal.at.In-loop-i t).At-loop-i)
@@ -81,18 +81,18 @@ loop-i-init c = (
 pub next_name-here-requires : goal.next_name-here-requires
 next_name-here-requires c =
     let s = begun (goal.at.next_name-here-requires c).At-loop-i in
-    (s.pre.0, s.pre.1, s.pre.2, below (goal.at.next_name-here-requires c).In-loop-i, c.loop-i.invariant.1)
+    (s.requires.0, s.requires.1, s.requires.2, below (goal.at.next_name-here-requires c).In-loop-i, c.loop-i.invariant.1)
 
 pub place_of-requires : goal.place_of-requires
-place_of-requires c = ((begun (goal.at.place_of-requires c).At-loop-i).pre.3, c.next_name-here.ensures.fits)
+place_of-requires c = ((begun (goal.at.place_of-requires c).At-loop-i).requires.3, c.next_name-here.ensures.fits)
 
 -- what looking the name up says of it
 module _ (c : After-place_of) where
   abbrev turn : In-loop-i
-  turn = c
+  turn = (goal.at.After-place_of c).In-loop-i
 
   abbrev top : Start
-  top = begun turn.before
+  top = (goal.at.After-place_of c).Start
 
   abbrev names : List (List ℕ)
   names = named_as top.args.text.now top.args.block.now c.next_name-here.result.named
@@ -101,55 +101,53 @@ module _ (c : After-place_of) where
   looked_up e = subst (PlacedAs (entries top) names) e c.place_of.ensures
 
   -- what the entry brings
-  here : {ws : List (List ℕ)} → names ≡ ws → each top turn.before.loop.i ≡ ws
+  here : {ws : List (List ℕ)} → names ≡ ws → each top turn.loop-i.i ≡ ws
   here e = sym c.next_name-here.ensures.same ∙ e
 
-placed : (p : In-At-2) → Word (entries (top (goal.at.In-At-2 p).After-place_of)) (names (goal.at.In-At-2 p).After-place_of) (some p.in-At.place)
-placed p = looked_up (goal.at.In-At-2 p).After-place_of p.in-At.is
+placed : (p : In-At) → Word (entries (top (goal.at.In-At p).After-place_of)) (names (goal.at.In-At p).After-place_of) (some p.in-At.place)
+placed p = looked_up (goal.at.In-At p).After-place_of p.in-At.is
 
-place-small : (p : In-At-2) → p.in-At.place < 64
+place-small : (p : In-At) → p.in-At.place < 64
 place-small p =
-    let s = top (goal.at.In-At-2 p).After-place_of in
+    let s = top (goal.at.In-At p).After-place_of in
     omega (
       arith,
       place-below (same_bytes (placed p).word) (entries s) p.in-At.place (placed p).found,
       entries-many s,
-      s.pre.3.few,
+      s.requires.3.few,
     )
 
 pub push_index-n-requires : goal.push_index-n-requires
 push_index-n-requires c =
-    let t = turn (looked c) in
-    (t.before.loop.inv.0.size, (room t).0)
+    let t = turn (goal.at.push_index-n-requires c).After-place_of in
+    (t.loop-i.invariant.0.size, (room t).0)
 
 pub loop-i-preserved-in-At : goal.loop-i-preserved-in-At
 loop-i-preserved-in-At c =
     let t = turn (goal.at.loop-i-preserved-in-At c).After-place_of in
-    let l = t.before in
     let e = c.push_index-n.ensures in (
-      brings-pair (entries (top (goal.at.loop-i-preserved-in-At c).After-place_of)) (each (top (goal.at.loop-i-preserved-in-At c).After-place_of)) l.loop.indexes l.loop.n l.loop.i l.loop.inv.0 _ _
-          (placed (goal.at.loop-i-preserved-in-At c).In-At-2).word c.in-At.place (here (goal.at.loop-i-preserved-in-At c).After-place_of (placed (goal.at.loop-i-preserved-in-At c).In-At-2).are) (placed (goal.at.loop-i-preserved-in-At c).In-At-2).found e.0 e.1 e.2 (room t).0,
+      brings-pair (entries (top (goal.at.loop-i-preserved-in-At c).After-place_of)) (each (top (goal.at.loop-i-preserved-in-At c).After-place_of)) t.loop-i.indexes t.loop-i.n t.loop-i.i t.loop-i.invariant.0 _ _
+          (placed (goal.at.loop-i-preserved-in-At c).In-At).word c.in-At.place (here (goal.at.loop-i-preserved-in-At c).After-place_of (placed (goal.at.loop-i-preserved-in-At c).In-At).are) (placed (goal.at.loop-i-preserved-in-At c).In-At).found e.0 e.1 e.2 (room t).0,
       c.next_name-here.ensures.behind,
-      omega (arith, t.loop-test.taken),
+      omega (arith, t.loop-i-test.true),
     )
 
 pub returns-in-Missing : goal.returns-in-Missing
 returns-in-Missing c =
     let t = turn (goal.at.returns-in-Missing c).After-place_of in
-    let l = t.before in
     let w = looked_up (goal.at.returns-in-Missing c).After-place_of c.in-Missing.is in
     sym (as_source (top (goal.at.returns-in-Missing c).After-place_of))
-    ∙ brings-missing (entries (top (goal.at.returns-in-Missing c).After-place_of)) (each (top (goal.at.returns-in-Missing c).After-place_of)) l.loop.indexes l.loop.n l.loop.i l.loop.inv.0 w.word (all (top (goal.at.returns-in-Missing c).After-place_of)) (below t)
+    ∙ brings-missing (entries (top (goal.at.returns-in-Missing c).After-place_of)) (each (top (goal.at.returns-in-Missing c).After-place_of)) t.loop-i.indexes t.loop-i.n t.loop-i.i t.loop-i.invariant.0 w.word (all (top (goal.at.returns-in-Missing c).After-place_of)) (below t)
     (here (goal.at.returns-in-Missing c).After-place_of w.are) w.found
 
 pub loop-i-preserved : goal.loop-i-preserved
 loop-i-preserved c =
     let t = turn (goal.at.loop-i-preserved c).After-place_of in
-    let l = t.before in (
-      brings-nothing (entries (top (goal.at.loop-i-preserved c).After-place_of)) (each (top (goal.at.loop-i-preserved c).After-place_of)) l.loop.indexes l.loop.n l.loop.i l.loop.inv.0
+    (
+      brings-nothing (entries (top (goal.at.loop-i-preserved c).After-place_of)) (each (top (goal.at.loop-i-preserved c).After-place_of)) t.loop-i.indexes t.loop-i.n t.loop-i.i t.loop-i.invariant.0
           (here (goal.at.loop-i-preserved c).After-place_of (looked_up (goal.at.loop-i-preserved c).After-place_of c.in-NoName.is)),
       c.next_name-here.ensures.behind,
-      omega (arith, t.loop-test.taken),
+      omega (arith, t.loop-i-test.true),
     )
 
 pub returns : goal.returns
@@ -161,16 +159,16 @@ returns c =
     (last ∙ counted (goal.at.returns c).At-loop-i) (entries-many s))
 
 pub overflow_cast-place : goal.overflow_cast-place
-overflow_cast-place c = omega (arith, place-small (goal.at.overflow_cast-place c).In-At-2)
+overflow_cast-place c = omega (arith, place-small (goal.at.overflow_cast-place c).In-At)
 
 pub overflow_add-i : goal.overflow_add-i
-overflow_add-i c = omega (arith, (room (turn (looked c))).1)
+overflow_add-i c = omega (arith, (room (turn (goal.at.overflow_add-i c).After-place_of)).1)
 
 pub loop-i-smaller-in-At : goal.loop-i-smaller-in-At
-loop-i-smaller-in-At c = omega (arith, (turn (looked c)).loop-test.taken)
+loop-i-smaller-in-At c = omega (arith, (turn (goal.at.loop-i-smaller-in-At c).After-place_of).loop-i-test.true)
 
 pub overflow_add-i-in-NoName : goal.overflow_add-i-in-NoName
 overflow_add-i-in-NoName c = omega (arith, (room (turn (goal.at.overflow_add-i-in-NoName c).After-place_of)).1)
 
 pub loop-i-smaller : goal.loop-i-smaller
-loop-i-smaller c = omega (arith, (turn (goal.at.loop-i-smaller c).After-place_of).loop-test.taken)
+loop-i-smaller c = omega (arith, (turn (goal.at.loop-i-smaller c).After-place_of).loop-i-test.true)

@@ -7,12 +7,12 @@ use Rattle.resolve_symbols.specs.Sources.{SourceFits}
 use Rattle.resolve_operands.specs.declared.NextName.{NextName}
 use Rattle.resolve_operands.specs.Named.{extent_of, EntryAt, NameHere}
 use Rattle.resolve_operands.proofs.Naming.{entry-stands, entry_named, next-read}
-use Rattle.resolve_operands.proofs.next_name.Goals.{After-shared_slice_known-3-1}
+use Rattle.resolve_operands.proofs.next_name.Goals.{After-shared_slice_known-3-1, Start}
 use Rattle.resolve_operands.proofs.next_name.Goals as goal
 
 module _ (c : After-shared_slice_known-3-1) where
   abbrev start : Start
-  start = c
+  start = (goal.at.After-shared_slice_known-3-1 c).Start
 
   -- what is known of the entry, and what is answered of it, by its source
   known : {x : Source} → start.args.source ≡ x
@@ -23,7 +23,7 @@ module _ (c : After-shared_slice_known-3-1) where
       subst
       (λ (x : Source). SourceFits a.text.now x × (a.index < (extent_of a.layout x).count) × EntryAt a.text.now x a.index a.cur.at)
       e
-      (start.pre.2, start.pre.3, start.pre.4)
+      (start.requires.2, start.requires.3, start.requires.4)
 
   answered : {x : Source} (r : NextName) → start.args.source ≡ x
       → let a = start.args in

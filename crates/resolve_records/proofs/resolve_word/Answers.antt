@@ -15,4 +15,4 @@ resolved_word-requires c =
 pub returns : goal.returns
 returns c =
     let d = c.resolve_packed-resolved.ensures in
-    (c.resolved_word.ensures ∙ ap resolved_word d.0, d.1)
+    (c.resolved_word.ensures ∙ ap resolved_word d.result_value, d.packed)

@@ -115,7 +115,7 @@ returns-then-notes-remarks c = (
 pub put_notes-requires : goal.put_notes-requires
 put_notes-requires c =
     let s = start_of (written_at c) in
-    (omega (arith, c.if-notes-remarks.false, c.note_count-remarks.ensures), s.pre.3.tallied.held)
+    (omega (arith, c.if-notes-remarks.false, c.note_count-remarks.ensures), s.requires.3.tallied.held)
 
 pub returns : goal.returns
 unfolding AttemptAs Roomy resolved_as
@@ -124,7 +124,7 @@ returns c =
       (λ g.
           let x = outcome (context_of s) g.what in
           let whole = text-written g c.put_groups-end.ensures in
-          let held : length (ground_text x) ≤ length g.before = omega (arith, c.if-end-gt16384.left, c.if-made-end.false, long c g, same-room whole) in
+          let held : length (ground_text x) ≤ length g.before = omega (arith, c.if-end-gt16384.false, c.if-made-end.false, long c g, same-room whole) in
           let k = effects-many g in
           let m = notes-many g c.additive-additive.result c.additive-additive.ensures in
           let o = c.note_count-remarks.ensures in

@@ -8,7 +8,7 @@ use Rattle.read_forms.specs.Items.{items_in}
 use Rattle.read_forms.specs.Fits.{Listed}
 use Rattle.resolve_symbols.specs.Lets.{last_let}
 use Rattle.resolve_symbols.proofs.Lets.{let_found, no_let_found, last-below, look-builtin, look_let}
-use Rattle.resolve_symbols.proofs.look_up.Goals.{In-Place}
+use Rattle.resolve_symbols.proofs.look_up.Goals.{In-Place, Start}
 use Rattle.resolve_symbols.proofs.look_up.Goals as goal
 
 pub returns-in_default : goal.returns-in_default
@@ -23,7 +23,7 @@ returns-in_default c =
 -- the LET that was found
 module _ (c : In-Place) where
   abbrev start : Start
-  start = c
+  start = (goal.at.In-Place c).Start
 
   own :
       last_let start.args.text.now start.args.lets.now start.args.n start.args.word.now

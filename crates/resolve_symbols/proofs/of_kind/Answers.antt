@@ -9,7 +9,7 @@ use Rattle.resolve_context.specs.Kinds.{kind_as}
 use Rattle.resolve_context.proofs.Meaning.{declared_sound, kinds-within}
 use Rattle.resolve_symbols.specs.Brings.{declared_at}
 use Rattle.resolve_symbols.proofs.Brings.{yields_nothing, yields_pair, declared-taken, declared-left}
-use Rattle.resolve_symbols.proofs.of_kind.Goals.{After-same_kind}
+use Rattle.resolve_symbols.proofs.of_kind.Goals.{After-same_kind, Start}
 use Rattle.resolve_symbols.proofs.of_kind.Goals as goal
 
 pub kind_at-requires : goal.kind_at-requires
@@ -20,7 +20,7 @@ pair_at-requires c = let p = c.requires in (p.1, declared_sound _ _ _ p.0)
 
 module _ (c : After-same_kind) where
   abbrev start : Start
-  start = c
+  start = (goal.at.After-same_kind c).Start
 
   abbrev block : List ℕ
   block = start.args.block.now

@@ -11,7 +11,7 @@ use Rattle.resolve_context.proofs.Meaning.{roles_sound, variables_sound, paramet
 use Rattle.resolve_symbols.specs.Sources.{role_of, of_roles}
 use Rattle.resolve_symbols.specs.Brings.{binding_at, Matches}
 use Rattle.resolve_symbols.proofs.Brings.{binding_taken, binding_left, matches_nothing, match_found}
-use Rattle.resolve_symbols.proofs.of_template.Goals.{After-has_role}
+use Rattle.resolve_symbols.proofs.of_template.Goals.{After-has_role, Start}
 use Rattle.resolve_symbols.proofs.of_template.Goals as goal
 
 pub name_at-role-requires : goal.name_at-role-requires
@@ -19,7 +19,7 @@ name_at-role-requires c = let p = c.requires in (p.1, roles_sound _ _ _ p.0)
 
 module _ (c : After-has_role) where
   abbrev start : Start
-  start = c
+  start = (goal.at.After-has_role c).Start
 
   abbrev block : List ℕ
   block = start.args.block.now
@@ -43,16 +43,16 @@ returns-then-not-has_role c =
     (binding_left (parameters (goal.at.returns-then-not-has_role c).After-has_role) (of_roles (start (goal.at.returns-then-not-has_role c).After-has_role).args.roles) (entry (goal.at.returns-then-not-has_role c).After-has_role) (sym (tested (goal.at.returns-then-not-has_role c).After-has_role) ∙ c.if-not-has_role.true))
 
 pub variables_of-requires : goal.variables_of-requires
-variables_of-requires c = template-near _ _ _ (start (goal.at.variables_of-requires c).After-has_role).pre.0
+variables_of-requires c = template-near _ _ _ (start (goal.at.variables_of-requires c).After-has_role).requires.0
 
 pub name_at-variable-requires : goal.name_at-variable-requires
 name_at-variable-requires c =
     let s = start (goal.at.name_at-variable-requires c).After-has_role in
     subst (λ (n : Names). (s.args.index < n.count) × Sound s.args.block.now s.args.lists.now n) (sym c.variables_of.ensures)
-    (s.pre.1, variables_sound _ _ _ s.pre.0)
+    (s.requires.1, variables_sound _ _ _ s.requires.0)
 
 pub match_of-requires : goal.match_of-requires
-match_of-requires c = parameters_sound _ _ _ (start (goal.at.match_of-requires c).After-has_role).pre.0
+match_of-requires c = parameters_sound _ _ _ (start (goal.at.match_of-requires c).After-has_role).requires.0
 
 pub returns : goal.returns
 returns c =

@@ -24,7 +24,7 @@ use Rattle.resolve_taking.proofs.Reading.{Reading, none_read, refused-read, one_
 use Rattle.resolve_taking.proofs.Gathering.{still_quiet, started, all_gathered, feature-passed, key-again, one-gathered, let_stands}
 use Rattle.resolve_taking.proofs.Bringing.{none-brought, one-brought, one-refused, all-brought}
 use Rattle.resolve_taking.proofs.Refusing.{text-refused, context-refused, let-refused, statement-refused}
-use Rattle.resolve_taking.proofs.take_text.Goals.{After-bring_one, After-later-1, After-loop-i, After-statement_at-again, After-statement_at-again-in-loop-k, At-loop-i, Else-has_let, In-End, In-Let-2, In-Refused-bring_one, In-Statement-2, In-loop-i, In-loop-k}
+use Rattle.resolve_taking.proofs.take_text.Goals.{After-bring_one, After-later-1, After-loop-i, After-statement_at-again, After-statement_at-again-in-loop-k, At-loop-i, Else-has_let, In-End, In-Let, In-Refused-bring_one, In-Statement, In-loop-i, In-loop-k}
 use Rattle.resolve_taking.proofs.take_text.Goals as goal
 
 -- Reading.
@@ -35,14 +35,14 @@ pub next_statement-requires : goal.next_statement-requires
 next_statement-requires c = let p = c.requires in (p.0, p.1, p.2, c.loop-statement.invariant.few)
 
 -- a statement's end lies behind its start, and there were not 256 before it
-forward : (c : In-Statement-2)
+forward : (c : In-Statement)
     → (c.loop-statement.cur.at < c.in-Statement.after.at) × (c.in-Statement.after.at ≤ length c.args.text.now) × (c.loop-statement.count < 256)
 unfolding NextFurther
 forward c =
     subst (NextFurther c.args.text.now c.loop-statement.count c.loop-statement.cur.at) c.in-Statement.is c.next_statement.ensures.next_further
 
 -- it stands before all that is left
-stands-next : (c : In-Statement-2)
+stands-next : (c : In-Statement)
     → let s = c.args.text.now in
     let limit = c.args.limit in
     reading_at limit s c.loop-statement.count between c.loop-statement.cur.at
@@ -51,7 +51,7 @@ unfolding next_then
 stands-next c = c.next_statement.ensures.at_value ∙ ap (next_then _ _ _) c.in-Statement.is
 
 pub lets_end-end-requires : goal.lets_end-end-requires
-lets_end-end-requires c = (forward (goal.at.lets_end-end-requires c).In-Statement-2).2
+lets_end-end-requires c = (forward (goal.at.lets_end-end-requires c).In-Statement).2
 
 pub offset_bounds-forms-count : goal.offset_bounds-forms-count
 offset_bounds-forms-count c = omega (arith, c.if-count-lt-FEW.true)
@@ -60,22 +60,18 @@ pub bounds-forms-count : goal.bounds-forms-count
 bounds-forms-count c = omega (arith, c.if-count-lt-FEW.true)
 
 pub lets_start-start-requires : goal.lets_start-start-requires
-lets_start-start-requires c = (forward (goal.at.lets_start-start-requires c).In-Statement-2).2
+lets_start-start-requires c = (forward (goal.at.lets_start-start-requires c).In-Statement).2
 
 pub overflow_add-count : goal.overflow_add-count
-overflow_add-count c = omega (arith, (forward (goal.at.overflow_add-count c).In-Statement-2).2)
+overflow_add-count c = omega (arith, (forward (goal.at.overflow_add-count c).In-Statement).2)
 
 pub loop-statement-smaller : goal.loop-statement-smaller
-loop-statement-smaller c = omega (arith, forward (goal.at.loop-statement-smaller c).In-Statement-2)
+loop-statement-smaller c = omega (arith, forward (goal.at.loop-statement-smaller c).In-Statement)
 
 pub loop-statement-preserved : goal.loop-statement-preserved
 loop-statement-preserved c =
-    let h = forward (goal.at.loop-statement-preserved c).In-Statement-2 in
-    ⊎_elim
-    (λ w. same_reading w.2 w.4 (w.3 ∙ w.1.ensures ∙ ap (start_after c.loop-statement.count c.loop-statement.start) c.lets_end-end.ensures) c.lets_end-end.ensures
-    (one_kept c.loop-statement.invariant c.in-Statement.statement c.in-Statement.after.at (stands-next (goal.at.loop-statement-preserved c).In-Statement-2) h.0 h.2 w.0.taken))
-    (λ w. same_reading w.1 w.3 w.2 c.lets_end-end.ensures (one-passed c.loop-statement.invariant c.in-Statement.statement c.in-Statement.after.at (stands-next (goal.at.loop-statement-preserved c).In-Statement-2) h.0 h.2 w.0.left))
-    c.if-count-lt-FEW.branch-raw
+    let h = forward (goal.at.loop-statement-preserved c).In-Statement in
+    elim c.if-count-lt-FEW.branch [ then-count-lt-FEW w ↦ ? | else-count-lt-FEW w ↦ ? ]
 
 pub earliest-refusal-requires : goal.earliest-refusal-requires
 earliest-refusal-requires c = c.requires.0
@@ -92,7 +88,7 @@ whole : (e : In-End)
     AllRead a.limit a.text.now (text_statements a.limit a.text.now) e.loop-statement.forms e.loop-statement.count e.loop-statement.later.at e.loop-statement.start e.loop-statement.end
 unfolding next_then
 whole e =
-    all_read e.loop-statement.inv e.requires.3 (e.next_statement.ensures.at_value ∙ ap (next_then _ _ _) e.in-End.is)
+    all_read e.loop-statement.invariant e.requires.3 (e.next_statement.ensures.at_value ∙ ap (next_then _ _ _) e.in-End.is)
 
 -- The context.
 pub check-requires : goal.check-requires
@@ -132,7 +128,7 @@ within t =
 
 pub statement_at-again-requires : goal.statement_at-again-requires
 statement_at-again-requires c =
-    let p = (start (loop_at c)).pre in
+    let p = (start (loop_at c)).requires in
     (p.0, p.1, p.2, λ q. ahead-few c.loop-i.invariant.1 (within (goal.at.statement_at-again-requires c).In-loop-i).1 q)
 
 -- the statement of a turn
@@ -143,16 +139,16 @@ stands_here x =
     here (whole (goal.at.After-statement_at-again x).In-End) x.loop-i.invariant.1 (within (goal.at.After-statement_at-again x).In-loop-i).0 _ x.slot.ensures.1 x.statement_at-again.ensures
 
 -- a LET's name and values
-let_here : (x : In-Let-2)
+let_here : (x : In-Let)
     → let s = (start (loop_at x)).args.text.now in
     InText s x.in-Let.name × Listed s x.in-Let.values
 let_here x =
     let_stands _ _ x.in-Let.name x.in-Let.values
-    (here-fits (whole (goal.at.In-Let-2 x).In-End).read (within (goal.at.In-Let-2 x).In-loop-i).1 (stands_here (goal.at.In-Let-2 x).After-statement_at-again)) x.in-Let.is
+    (here-fits (whole (goal.at.In-Let x).In-End).read (within (goal.at.In-Let x).In-loop-i).1 (stands_here (goal.at.In-Let x).After-statement_at-again)) x.in-Let.is
 
 pub has_let-requires : goal.has_let-requires
 has_let-requires c =
-    (c.loop-i.invariant.0.fit, (let_here (goal.at.has_let-requires c).In-Let-2).0)
+    (c.loop-i.invariant.0.fit, (let_here (goal.at.has_let-requires c).In-Let).0)
 
 pub shape_of-lets-then-has_let : goal.shape_of-lets-then-has_let
 shape_of-lets-then-has_let c = c.loop-i.invariant.2
@@ -166,7 +162,7 @@ returns-then-has_let c =
 
 -- there is one less than there are statements
 below : (e : Else-has_let) → e.loop-i.n < 256
-below e = omega (arith, (within (goal.at.Else-has_let e).In-loop-i).2, e.loop-i.inv.0.few)
+below e = omega (arith, (within (goal.at.Else-has_let e).In-loop-i).2, e.loop-i.invariant.0.few)
 
 pub overflow_mul-n : goal.overflow_mul-n
 overflow_mul-n c = omega (arith, below (goal.at.overflow_mul-n c).Else-has_let)
@@ -175,20 +171,20 @@ pub overflow_add-n : goal.overflow_add-n
 overflow_add-n c = omega (arith, below (goal.at.overflow_add-n c).Else-has_let)
 
 pub shape_of-lets-then-lets-n : goal.shape_of-lets-then-lets-n
-shape_of-lets-then-lets-n c = c.loop-i.inv.2
+shape_of-lets-then-lets-n c = c.loop-i.invariant.2
 
 pub returns-then-lets-n : goal.returns-then-lets-n
 unfolding TakenAs
-returns-then-lets-n c = omega (arith, c.if-lets-n.true, below (goal.at.returns-then-lets-n c).Else-has_let, c.loop-i.inv.2)
+returns-then-lets-n c = omega (arith, c.if-lets-n.true, below (goal.at.returns-then-lets-n c).Else-has_let, c.loop-i.invariant.2)
 
 pub put_let-requires : goal.put_let-requires
 put_let-requires c = (
-  c.loop-i.inv.0.fit,
+  c.loop-i.invariant.0.fit,
   below (goal.at.put_let-requires c).Else-has_let,
   omega (arith, c.if-lets-n.false),
   c.requires.3.short,
-  (let_here (goal.at.put_let-requires c).In-Let-2).0,
-  (let_here (goal.at.put_let-requires c).In-Let-2).1,
+  (let_here (goal.at.put_let-requires c).In-Let).0,
+  (let_here (goal.at.put_let-requires c).In-Let).1,
 )
 
 pub overflow_add-n-in-Let : goal.overflow_add-n-in-Let
@@ -198,14 +194,14 @@ pub overflow_add-i : goal.overflow_add-i
 overflow_add-i c = omega (arith, (within (goal.at.overflow_add-i c).In-loop-i).2)
 
 pub loop-i-smaller-in-Let : goal.loop-i-smaller-in-Let
-loop-i-smaller-in-Let c = omega (arith, c.loop-i-test.taken)
+loop-i-smaller-in-Let c = omega (arith, c.loop-i-test.true)
 
 pub loop-i-preserved-in-Let : goal.loop-i-preserved-in-Let
 loop-i-preserved-in-Let c = (
-  one-gathered c.loop-i.inv.0 _ (stands_here (goal.at.loop-i-preserved-in-Let c).After-statement_at-again).first c.in-Let.name c.in-Let.values c.in-Let.is
-      c.has_let.ensures c.if-has_let.left c.put_let.ensures,
+  one-gathered c.loop-i.invariant.0 _ (stands_here (goal.at.loop-i-preserved-in-Let c).After-statement_at-again).first c.in-Let.name c.in-Let.values c.in-Let.is
+      c.has_let.ensures c.if-has_let.false c.put_let.ensures,
   (stands_here (goal.at.loop-i-preserved-in-Let c).After-statement_at-again).ahead,
-  c.put_let.ensures.size ∙ c.loop-i.inv.2,
+  c.put_let.ensures.size ∙ c.loop-i.invariant.2,
 )
 
 pub overflow_add-i-in-Feature : goal.overflow_add-i-in-Feature
@@ -216,9 +212,9 @@ loop-i-smaller c = omega (arith, c.loop-i-test.true)
 
 pub loop-i-preserved : goal.loop-i-preserved
 loop-i-preserved c = (
-  feature-passed c.loop-i.inv.0 _ (stands_here (goal.at.loop-i-preserved c).After-statement_at-again).first c.in-Feature.field-0 c.in-Feature.is,
+  feature-passed c.loop-i.invariant.0 _ (stands_here (goal.at.loop-i-preserved c).After-statement_at-again).first c.in-Feature.field-0 c.in-Feature.is,
   (stands_here (goal.at.loop-i-preserved c).After-statement_at-again).ahead,
-  c.loop-i.inv.2,
+  c.loop-i.invariant.2,
 )
 
 -- all LETs stand in the run
@@ -251,7 +247,7 @@ within3 t =
 
 pub statement_at-again-requires-in-loop-k : goal.statement_at-again-requires-in-loop-k
 statement_at-again-requires-in-loop-k c =
-    let p = (start (loop_at c)).pre in
+    let p = (start (loop_at c)).requires in
     (p.0, p.1, p.2, λ x. ahead-few c.loop-k.invariant.1 (within3 (goal.at.statement_at-again-requires-in-loop-k c).In-loop-k).1 x)
 
 taken_here : (x : After-statement_at-again-in-loop-k)
@@ -269,7 +265,7 @@ bring_one-requires c =
       p.1,
       p.2,
       stands (goal.at.bring_one-requires c).At-loop-i,
-      c.loop-i.inv.0.fit,
+      c.loop-i.invariant.0.fit,
       here-fits (whole (goal.at.bring_one-requires c).In-End).read (within3 (goal.at.bring_one-requires c).In-loop-k).1 (taken_here (goal.at.bring_one-requires c).After-statement_at-again-in-loop-k),
       h,
       omega (arith, g.few, h),
@@ -335,7 +331,7 @@ returns-in-Refused-bring_one c =
     (one-refused q.loop3.inv.0 _ (taken_here b).first c.in-Refused-bring_one.number h)
 
 pub shape_of-lets : goal.shape_of-lets
-shape_of-lets c = c.loop-i.inv.2
+shape_of-lets c = c.loop-i.invariant.2
 
 pub shape_of-terms : goal.shape_of-terms
 shape_of-terms c = c.loop-k.invariant.3

@@ -1,0 +1,15 @@
+-- `record_laws::store` meets its contract: one record more is one element set. Assumes nothing.
+use Rattle.std.proofs.Common.{◌<◌, length, arith, add-one}
+use Rattle.record_laws.proofs.Stored.{one_more}
+use Rattle.record_laws.proofs.store.Goals as goal
+
+pub loop-i-preserved : goal.loop-i-preserved
+loop-i-preserved g c =
+    let ps = c.args.packed.now in
+    let ys = c.args.records.now in
+    let i = c.loop-i.i in
+    let lp : i < length ps = omega arith in
+    let ly : i < length ys = omega arith in (
+      omega arith,
+      rw (c.loop-i.invariant.1, c.record_in-e.ensures, add-one) (one_more g.U.Unpacks.unpack ps ys i lp ly),
+    )
