@@ -2,7 +2,6 @@
 ghost use Rattle.std.specs.Prelude.{◌≤◌};
 
 use print_lines::Asked;
-use show_pages::pages;
 
 // What is asked for, under which ceiling for counts, and the index of the context file's name.
 #[derive(Clone, Copy)]
@@ -26,11 +25,11 @@ enum Word {
     Nothing,
 }
 
-pub fn usage() {
-    io::write_all(
-        2,
+pub fn usage(rt: &HostRuntime) {
+    show_input::tell_bytes(
+        rt,
         b"ground: failed: usage: ground [--ceiling N] [--effects | --notes] CONTEXT [FILE]\n  writes the ground text of FILE, or of standard input, in the context of the file CONTEXT; its effects or its notes; or `refused NUMBER PLACE`\n  --ceiling N: the largest count that the text may have, 64 otherwise\n  ground --version: which product and which kit this is\n",
-    );
+    )
 }
 
 // What a first argument asks for: a file's name does not start with a hyphen.
@@ -63,11 +62,11 @@ fn first_file(asked: Asked, index: usize) -> usize
 }
 
 // Whether an argument starts with a hyphen.
-fn is_hyphened(index: usize, count: usize, name: &mut [u8]) -> bool {
+fn is_hyphened(rt: &HostRuntime, index: usize, count: usize, name: &mut [u8]) -> bool {
     if count <= index {
         return false;
     }
-    let n = os::arg(index, name);
+    let n = show_input::argument_length(rt, index, name);
     if n == 0 {
         return false;
     }
@@ -75,7 +74,7 @@ fn is_hyphened(index: usize, count: usize, name: &mut [u8]) -> bool {
 }
 
 // The names of one or two files follow from an index on.
-fn if_files(wish: Wish, count: usize, name: &mut [u8]) -> Wanted {
+fn if_files(rt: &HostRuntime, wish: Wish, count: usize, name: &mut [u8]) -> Wanted {
     let index = wish.first;
     if 4 < index {
         return Wanted::Nothing;
@@ -86,29 +85,35 @@ fn if_files(wish: Wish, count: usize, name: &mut [u8]) -> Wanted {
     if 2 < count - index {
         return Wanted::Nothing;
     }
-    if is_hyphened(index, count, name) {
+    if is_hyphened(rt, index, count, name) {
         return Wanted::Nothing;
     }
-    if is_hyphened(index + 1, count, name) {
+    if is_hyphened(rt, index + 1, count, name) {
         return Wanted::Nothing;
     }
     Wanted::Lines(wish)
 }
 
 // What the arguments from an index on ask for, or nothing where they are not as they should be.
-pub fn asked_for(ceiling: u32, index: usize, count: usize, name: &mut [u8]) -> Wanted {
+pub fn asked_for(
+    rt: &HostRuntime,
+    ceiling: u32,
+    index: usize,
+    count: usize,
+    name: &mut [u8],
+) -> Wanted {
     if count <= index {
         return Wanted::Nothing;
     }
     if 3 < index {
         return Wanted::Nothing;
     }
-    let n = os::arg(index, name);
-    let whole = pages::within(n, name);
-    match asked_by(&name[..whole]) {
+    let n = show_input::argument_length(rt, index, name);
+    match asked_by(&name[..n]) {
         Word::Lines(asked) => {
             let first = first_file(asked, index);
             if_files(
+                rt,
                 Wish {
                     asked,
                     ceiling,

@@ -19,6 +19,7 @@ use show_refusals::{ground_messages, warnings};
 
 // The message for a person: what is wrong with the context has its file's name before it.
 fn explain(
+    rt: &HostRuntime,
     page: &mut [u8],
     text: &[u8],
     block: &[u8],
@@ -33,7 +34,7 @@ fn explain(
         let b = pages::put_all(page, a, path);
         let c = pages::put_all(page, b, b": ");
         let d = context_messages::put_wrong(page, c, block, lists, file);
-        return show_input::write_message(page, d);
+        return show_input::write_message(rt, page, d);
     }
     let b = ground_messages::put_fault(
         page,
@@ -45,11 +46,12 @@ fn explain(
         refusal.place,
         ceiling,
     );
-    show_input::write_message(page, b)
+    show_input::write_message(rt, page, b)
 }
 
 // What is lawful and yet lost: behind the notes where they are asked for, and for a person otherwise.
 fn warn(
+    rt: &HostRuntime,
     page: &mut [u8],
     asked: Asked,
     text: &[u8],
@@ -61,18 +63,26 @@ fn warn(
     match asked {
         Asked::Notes => {
             let n = warnings::put_warnings(page, text, block, lists, file, effects, b"warning: ");
-            show_input::write_page(b"ground: ", page, n)
+            show_input::write_page(rt, b"ground: ", page, n)
         }
         _ => {
             let word = b"ground: warning: ";
             let n = warnings::put_warnings(page, text, block, lists, file, effects, word);
-            show_input::write_message(page, n)
+            show_input::write_message(rt, page, n)
         }
     }
 }
 
 // The answer about a text in a context. The page has room for 2,048 effects and 257 notes in words, which is more than anything else has.
-fn answer(wish: Wish, text: &[u8], block: &[u8], lists: &[u32], path: &[u8], file: &[u8]) {
+fn answer(
+    rt: &HostRuntime,
+    wish: Wish,
+    text: &[u8],
+    block: &[u8],
+    lists: &[u32],
+    path: &[u8],
+    file: &[u8],
+) {
     let asked = wish.asked;
     let ceiling = wish.ceiling;
     let mut page = [0; 262144];
@@ -92,101 +102,120 @@ fn answer(wish: Wish, text: &[u8], block: &[u8], lists: &[u32], path: &[u8], fil
         &mut page,
         ceiling,
     );
-    show_input::write_page(b"ground: ", &page, lines.count);
+    show_input::write_page(rt, b"ground: ", &page, lines.count);
     let answer = lines.answer;
     match answer {
         Resolved::Refused(refusal) => {
-            explain(&mut page, text, block, lists, path, file, refusal, ceiling)
+            explain(
+                rt, &mut page, text, block, lists, path, file, refusal, ceiling,
+            )
         }
         Resolved::Lengths(n) => {
-            ground_files::tell_unasked(asked, &mut page, text, &notes, n.notes);
+            ground_files::tell_unasked(rt, asked, &mut page, text, &notes, n.notes);
             let m = within::effects(n.effects, &effects);
-            warn(&mut page, asked, text, block, lists, file, &effects[..m])
+            warn(
+                rt,
+                &mut page,
+                asked,
+                text,
+                block,
+                lists,
+                file,
+                &effects[..m],
+            )
         }
     }
 }
 
 // The answer about a text, where the context's file was read.
-fn answer_context(wish: Wish, text: &[u8], path: &[u8], file: &[u8]) {
+fn answer_context(rt: &HostRuntime, wish: Wish, text: &[u8], path: &[u8], file: &[u8]) {
     let mut block = io::large_buffer();
     let mut run = [0; 66000];
     let taken = context_file::read_context(file, &mut block, &mut run);
     if taken.cause != context_file::FINE {
-        return ground_files::tell_malformed(path, file, taken);
+        return ground_files::tell_malformed(rt, path, file, taken);
     }
     let bytes = pages::within(taken.bytes, &block);
     let numbers = within::numbers(taken.numbers, &run);
-    answer(wish, text, &block[..bytes], &run[..numbers], path, file)
+    answer(rt, wish, text, &block[..bytes], &run[..numbers], path, file)
 }
 
 // A file that fills its buffer may go on beyond it.
-fn answer_file(wish: Wish, text: &[u8], path: &[u8], file: &[u8], length: usize) {
+fn answer_file(rt: &HostRuntime, wish: Wish, text: &[u8], path: &[u8], file: &[u8], length: usize) {
     if file.len() <= length {
-        show_input::tell_failed(b"ground: ");
-        io::write_all(2, path);
-        io::write_all(2, b": more than 65535 bytes, the most of a context file\n");
+        show_input::tell_failed(rt, b"ground: ");
+        show_input::tell_bytes(rt, path);
+        show_input::tell_bytes(rt, b": more than 65535 bytes, the most of a context file\n");
         return;
     }
     let n = pages::within(length, file);
-    answer_context(wish, text, path, &file[..n])
+    answer_context(rt, wish, text, path, &file[..n])
 }
 
 // Where the text was read: its bytes, in the context of a file.
-fn answer_text(wish: Wish, text: &[u8], got: Got, path: &[u8], file: &[u8], length: usize) {
+fn answer_text(
+    rt: &HostRuntime,
+    wish: Wish,
+    text: &[u8],
+    got: Got,
+    path: &[u8],
+    file: &[u8],
+    length: usize,
+) {
     match got {
-        Got::Failed => {}
+        Got::Failed(_) => {}
         Got::Bytes(n) => {
             let whole = pages::within(n, text);
-            answer_file(wish, &text[..whole], path, file, length)
+            answer_file(rt, wish, &text[..whole], path, file, length)
         }
     }
 }
 
 // The context's file, whose name is there, and then the text.
-fn answer_named(wish: Wish, path: &[u8], index: usize, count: usize) {
+fn answer_named(rt: &HostRuntime, wish: Wish, path: &[u8], index: usize, count: usize) {
     let mut name = io::buffer();
     let mut file = io::large_buffer();
     let mut text = io::large_buffer();
-    match show_input::read_file(b"ground: ", path, &mut file) {
-        Got::Failed => {}
+    match show_input::read_file(rt, b"ground: ", path, &mut file) {
+        Got::Failed(_) => {}
         Got::Bytes(n) => {
-            let got = ground_files::read_text(index, count, &mut name, &mut text);
-            answer_text(wish, &text, got, path, &file, n)
+            let got = ground_files::read_text(rt, index, count, &mut name, &mut text);
+            answer_text(rt, wish, &text, got, path, &file, n)
         }
     }
 }
 
 // The name of the context's file is the argument at an index; at the next one the text's may follow.
-fn answer_arguments(wish: Wish, count: usize, name: &mut [u8]) {
+fn answer_arguments(rt: &HostRuntime, wish: Wish, count: usize, name: &mut [u8]) {
     let index = wish.first;
     if 4 < index {
-        return asked::usage();
+        return asked::usage(rt);
     }
-    match show_input::argument(b"ground: ", index, name) {
-        Got::Failed => {}
+    match show_input::argument(rt, b"ground: ", index, name) {
+        Got::Failed(_) => {}
         Got::Bytes(n) => {
             let whole = pages::within(n, name);
-            answer_named(wish, &name[..whole], index + 1, count)
+            answer_named(rt, wish, &name[..whole], index + 1, count)
         }
     }
 }
 
 // What the words from an index on ask for, under a ceiling.
-fn answer_words(ceiling: u32, index: usize, name: &mut [u8]) {
-    let count = os::arg_count();
-    match asked::asked_for(ceiling, index, count, name) {
-        Wanted::Nothing => asked::usage(),
-        Wanted::Lines(wish) => answer_arguments(wish, count, name),
+fn answer_words(rt: &HostRuntime, ceiling: u32, index: usize, name: &mut [u8]) {
+    let count = show_input::argument_count(rt);
+    match asked::asked_for(rt, ceiling, index, count, name) {
+        Wanted::Nothing => asked::usage(rt),
+        Wanted::Lines(wish) => answer_arguments(rt, wish, count, name),
     }
 }
 
-fn main() {
+fn main(rt: HostRuntime) {
     let mut name = io::buffer();
-    if show_input::is_word(1, &mut name, b"--version") {
-        return show_input::write_version(b"ground: ");
+    if show_input::is_word(&rt, 1, &mut name, b"--version") {
+        return show_input::write_version(&rt, b"ground: ");
     }
-    match show_input::ceiling_words(&mut name) {
-        Ceiling::Under(ceiling, index) => answer_words(ceiling, index, &mut name),
-        Ceiling::Wrong => asked::usage(),
+    match show_input::ceiling_words(&rt, &mut name) {
+        Ceiling::Under(ceiling, index) => answer_words(&rt, ceiling, index, &mut name),
+        Ceiling::Wrong => asked::usage(&rt),
     }
 }

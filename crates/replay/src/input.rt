@@ -3,6 +3,7 @@ ghost use Rattle.io.specs.Counts.{IsPrefixLen};
 
 use replay_lines::output;
 use replay_requests::requests;
+use std::io::Read;
 
 // How many bytes of the line are there, and how many bytes of output are waiting. A line that does not fit is one longer than its buffer.
 #[derive(Clone, Copy)]
@@ -52,11 +53,14 @@ fn take_all(chunk: &[u8], line: &mut [u8], text: &mut [u8], out: &mut [u8], held
 }
 
 // How many bytes of standard input came; none at its end.
-fn read_some(chunk: &mut [u8]) -> usize
+fn read_some(rt: &HostRuntime, chunk: &mut [u8]) -> usize
     ensures { IsPrefixLen result chunk.new }
 {
-    let got = libc::read(0, chunk);
-    io::count(got, chunk)
+    let mut input = rt.stdin();
+    match input.read(chunk) {
+        Ok(n) => output::within(n, chunk),
+        Err(_) => output::within(0, chunk),
+    }
 }
 
 // The lines that end in what came are answered before more input is waited for.
@@ -67,11 +71,17 @@ fn take_some(chunk: &[u8], line: &mut [u8], text: &mut [u8], out: &mut [u8], use
 }
 
 // A proved loop has to end, and nothing says that an input does. So the loop counts its turns down, from a number that no run uses up.
-fn take_input(chunk: &mut [u8], line: &mut [u8], text: &mut [u8], out: &mut [u8]) -> usize {
+fn take_input(
+    rt: &HostRuntime,
+    chunk: &mut [u8],
+    line: &mut [u8],
+    text: &mut [u8],
+    out: &mut [u8],
+) -> usize {
     let mut used = 0;
     let mut turns = u64::MAX;
     while 0 < turns {
-        let n = read_some(chunk);
+        let n = read_some(rt, chunk);
         if n == 0 {
             return used;
         }
@@ -89,8 +99,14 @@ fn last_line(line: &[u8], text: &mut [u8], out: &mut [u8], used: usize) -> usize
     answer_line(line, text, out, used, 0)
 }
 
-pub fn answer_all(chunk: &mut [u8], line: &mut [u8], text: &mut [u8], out: &mut [u8]) {
-    let used = take_input(chunk, line, text, out);
+pub fn answer_all(
+    rt: &HostRuntime,
+    chunk: &mut [u8],
+    line: &mut [u8],
+    text: &mut [u8],
+    out: &mut [u8],
+) {
+    let used = take_input(rt, chunk, line, text, out);
     let len = last_line(line, text, out, used);
     output::flush(out, len);
 }

@@ -7,10 +7,10 @@
 
 mod input;
 
-fn main() {
+fn main(rt: HostRuntime) {
     let mut chunk = io::large_buffer();
     let mut line = [0; 131072];
     let mut text = io::large_buffer();
     let mut out = io::large_buffer();
-    input::answer_all(&mut chunk, &mut line, &mut text, &mut out);
+    input::answer_all(&rt, &mut chunk, &mut line, &mut text, &mut out);
 }

@@ -5,4 +5,4 @@ use Rattle.show_input.specs.declared.Got.TheVariants.{Bytes, Failed}
 
 abbrev pub Within : ℕ → Got → Type 0
 Within most (Bytes n) = n ≤ most
-Within most Failed = Unit {0}
+Within most (Failed error) = Unit {0}

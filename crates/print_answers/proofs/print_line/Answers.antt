@@ -13,13 +13,13 @@ print_under-requires c = let p = c.requires in (p.0, p.1, p.2)
 
 pub put-requires : goal.put-requires
 put-requires c =
-    let w = subst (λ (x : Printed). Answers (print_text c.args.limit c.args.text.now) c.args.page.now c.print_under.new.1.1.1.1.0 (printed_as x)) c.in-Length.is c.print_under.ensures in
-    omega (arith, length-small c.args.limit c.args.text.now c.args.page.now c.print_under.new.1.1.1.1.0 c.requires.3 w)
+    let w = subst (λ (x : Printed). Answers (print_text c.args.limit c.args.text.now) c.args.page.now c.print_under.new.out (printed_as x)) c.in-Length.is c.print_under.ensures in
+    omega (arith, length-small c.args.limit c.args.text.now c.args.page.now c.print_under.new.out c.requires.3 w)
 
 pub returns-in-Length : goal.returns-in-Length
 returns-in-Length c =
-    let w = subst (λ (x : Printed). Answers (print_text c.args.limit c.args.text.now) c.args.page.now c.print_under.new.1.1.1.1.0 (printed_as x)) c.in-Length.is c.print_under.ensures in record { written = printed-line c.args.limit c.args.text.now c.args.page.now c.print_under.new.1.1.1.1.0 c.requires.3 w c.put.ensures; answer_value = told c.args.limit c.args.text.now c.args.page.now c.print_under.new.1.1.1.1.0 c.requires.3 w }
+    let w = subst (λ (x : Printed). Answers (print_text c.args.limit c.args.text.now) c.args.page.now c.print_under.new.out (printed_as x)) c.in-Length.is c.print_under.ensures in record { written = printed-line c.args.limit c.args.text.now c.args.page.now c.print_under.new.out c.requires.3 w c.put.ensures; answer_value = told c.args.limit c.args.text.now c.args.page.now c.print_under.new.out c.requires.3 w }
 
 pub returns-in-Refused : goal.returns-in-Refused
 returns-in-Refused c =
-    let w = subst (λ (x : Printed). Answers (print_text c.args.limit c.args.text.now) c.args.page.now c.print_under.new.1.1.1.1.0 (printed_as x)) c.in-Refused.is c.print_under.ensures in record { written = refused-line c.args.limit c.args.text.now c.args.page.now c.print_under.new.1.1.1.1.0 c.requires.3 w c.Put-refused.ensures; answer_value = told c.args.limit c.args.text.now c.args.page.now c.print_under.new.1.1.1.1.0 c.requires.3 w }
+    let w = subst (λ (x : Printed). Answers (print_text c.args.limit c.args.text.now) c.args.page.now c.print_under.new.out (printed_as x)) c.in-Refused.is c.print_under.ensures in record { written = refused-line c.args.limit c.args.text.now c.args.page.now c.print_under.new.out c.requires.3 w c.Put-refused.ensures; answer_value = told c.args.limit c.args.text.now c.args.page.now c.print_under.new.out c.requires.3 w }

@@ -51,7 +51,7 @@ put_name-c-requires c =
 -- the covariate's name by the list that was chosen
 named :
     (d : After-put_name-c)
-    → Written d.put-b.new.0 d.put-b.result (covariate (goal.at.After-put_name-c d).Start) d.put_name-c.new.1.1.1.1.0 d.put_name-c.result
+    → Written d.put-b.new.out d.put-b.result (covariate (goal.at.After-put_name-c d).Start) d.put_name-c.new.out d.put_name-c.result
 named d = rw d.covariates-covariates.ensures at d.put_name-c.ensures
 
 pub put-d-requires : goal.put-d-requires

@@ -23,7 +23,7 @@ returns-then-text-out c =
 -- after measuring, the buffer is as it was
 unchanged : (c : After-put_text-length)
     → let out = c.args.out.now in
-    c.put_text-length.new.1.1.1.1.0 ++ out ≡ out
+    c.put_text-length.new.out ++ out ≡ out
 unchanged c =
     let a = c.requires.3 in
     none_lent c.args.out.now _ _ (canonical a.statements) c.put_text-length.result refl (c.put_text-length.ensures a.statements a.read)
@@ -39,4 +39,4 @@ returns c =
     let a = c.requires.3 in
     room_answers c.args.limit c.args.text.now c.args.out.now _ a.statements a.read _
     (omega (arith, c.if-out-length.false, (c.put_text-length.ensures a.statements a.read).next, ap length (unchanged (goal.at.returns c).After-put_text-length)))
-    (subst (λ (b : List ℕ). Written b 0 (canonical a.statements) c.put_text-2.new.1.1.1.1.0 c.put_text-2.result) (unchanged (goal.at.returns c).After-put_text-length) (c.put_text-2.ensures a.statements a.read))
+    (subst (λ (b : List ℕ). Written b 0 (canonical a.statements) c.put_text-2.new.out c.put_text-2.result) (unchanged (goal.at.returns c).After-put_text-length) (c.put_text-2.ensures a.statements a.read))

@@ -13,6 +13,6 @@ returns-in-Refused c = subst (KeptAs _ _ _ _) c.in-Refused.is c.print_few.ensure
 pub returns-in-More : goal.returns-in-More
 returns-in-More c =
     let a = c.args in
-    kept_next a.limit a.text.now a.out.now c.print_few.new.1.1.1.1.0 c.print_many-in-More.new.1.1.1.1.0
-    (subst (KeptAs a.limit a.text.now a.out.now c.print_few.new.1.1.1.1.0) c.in-More.is c.print_few.ensures)
+    kept_next a.limit a.text.now a.out.now c.print_few.new.out c.print_many-in-More.new.out
+    (subst (KeptAs a.limit a.text.now a.out.now c.print_few.new.out) c.in-More.is c.print_few.ensures)
     c.print_many-in-More.result c.print_many-in-More.ensures

@@ -41,13 +41,13 @@ returns-in-Length c = subst (KeptAs _ _ _ _) c.in-Length.is c.print_kept.ensures
 pub returns-in-Refused-print_kept : goal.returns-in-Refused-print_kept
 returns-in-Refused-print_kept c =
     let a = c.args in
-    refused-next a.limit a.text.now a.out.now c.print_kept.new.1.1.1.1.0 c.in-Refused-print_kept.r c.earliest.result
-    (subst (KeptAs a.limit a.text.now a.out.now c.print_kept.new.1.1.1.1.0) c.in-Refused-print_kept.is c.print_kept.ensures)
+    refused-next a.limit a.text.now a.out.now c.print_kept.new.out c.in-Refused-print_kept.r c.earliest.result
+    (subst (KeptAs a.limit a.text.now a.out.now c.print_kept.new.out) c.in-Refused-print_kept.is c.print_kept.ensures)
     (fine (goal.at.returns-in-Refused-print_kept c).In-Fine) c.earliest.ensures
 
 pub returns-in-More : goal.returns-in-More
 returns-in-More c =
     let a = c.args in
-    answers_next a.limit a.text.now a.out.now c.print_kept.new.1.1.1.1.0 c.print_twice-in-More.new.1.1.1.1.0
-    (subst (KeptAs a.limit a.text.now a.out.now c.print_kept.new.1.1.1.1.0) c.in-More.is c.print_kept.ensures)
+    answers_next a.limit a.text.now a.out.now c.print_kept.new.out c.print_twice-in-More.new.out
+    (subst (KeptAs a.limit a.text.now a.out.now c.print_kept.new.out) c.in-More.is c.print_kept.ensures)
     (printed_as c.print_twice-in-More.result) c.print_twice-in-More.ensures

@@ -49,14 +49,14 @@ unfolding AttemptAs
 returns-in-Answer c = subst (AttemptAs _ _ _ _ _ _ _) c.in-Answer.is c.resolve_short.ensures
 
 unchanged : (o : In-NoRoom)
-    → (o.resolve_short.new.1.1.1.1.1.1.0 ≡ o.args.ground.now) × (o.resolve_short.new.1.1.1.1.1.1.1.1.0 ≡ o.args.notes.now)
+    → (o.resolve_short.new.ground ≡ o.args.ground.now) × (o.resolve_short.new.notes ≡ o.args.notes.now)
 unfolding AttemptAs
 unchanged o = subst (AttemptAs _ _ _ _ _ _ _) o.in-NoRoom.is o.resolve_short.ensures
 
 -- and the working buffer is as long, which is enough for the effects
-work_long : (o : In-NoRoom) → 2048 ≤ length o.resolve_short.new.1.1.1.1.1.1.1.1.1.0
+work_long : (o : In-NoRoom) → 2048 ≤ length o.resolve_short.new.work
 work_long o =
-    let e : length o.resolve_short.new.1.1.1.1.1.1.1.1.1.0 ≡ length o.args.work.now = search rules in
+    let e : length o.resolve_short.new.work ≡ length o.args.work.now = search rules in
     omega (arith, e, o.requires)
 
 pub resolve_long-requires-in-NoRoom : goal.resolve_long-requires-in-NoRoom

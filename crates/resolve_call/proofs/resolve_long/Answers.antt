@@ -88,8 +88,8 @@ answered :
     (x : In-Answer)
     → let a = x.args in
     Answers (merge_and_ground (handed_context a.block.now a.lists.now) (there (goal.at.In-Answer x).In-Tally).there.what) a.ground.now a.room a.notes.now
-    x.settle.new.1.1.1.1.1.1.1.1.0 x.settle.new.1.1.1.1.1.1.1.1.1.1.0
-    x.settle.new.1.1.1.1.1.1.1.1.1.1.1.0 x.in-Answer.resolved
+    x.settle.new.ground x.settle.new.notes
+    x.settle.new.bench x.in-Answer.resolved
 unfolding AttemptAs
 answered x =
     subst (AttemptAs _ _ _ _ _ _ _) x.in-Answer.is (x.settle.ensures.0 (there (goal.at.In-Answer x).In-Tally))

@@ -24,7 +24,7 @@ answer m =
 
 -- the working buffer as it was left
 abbrev left : After-effect_count-count → List ℕ
-left m = m.resolve_packed-resolved.new.1.1.1.1.1.1.0
+left m = m.resolve_packed-resolved.new.work
 
 counted : (m : After-effect_count-count) → m.effect_count-count.result ≡ effects_in (lengths_of (answer m))
 counted m = m.effect_count-count.ensures ∙ ap effects_in m.resolve_packed-resolved.ensures.result_value

@@ -36,10 +36,10 @@ call s =
 
 -- the arrays that were lent
 abbrev lent : After-parameters_of → List ℕ
-lent p = p.parameters_of.new.1.1.1.1.1.1.1.1.0
+lent p = p.parameters_of.new.indexes
 
 abbrev lent_2 : After-covariates_of → List ℕ
-lent_2 v = v.covariates_of.new.1.1.1.1.1.1.1.0
+lent_2 v = v.covariates_of.new.indexes
 
 -- what the operands answered, by the layout that was handed
 looked : (p : After-parameters_of) {r : Entries} → p.parameters_of.result ≡ r

@@ -1,9 +1,8 @@
 -- `resolve_features::ground_feature` meets its contract, arm by arm.
 -- Assumes nothing.
 use mathlib.Core.Path.{◌≡◌, refl, ◌∙◌, sym, subst}
-use mathlib.Core.Logic.{⊎_elim}
+use borrow.Enum.Refused.{opened}
 use native.Mathlib.Omega.{arith}
-use borrow.Author.Tests.{not-true, not-false}
 use Rattle.labels.specs.Label.{keywords}
 use Rattle.read_forms.specs.declared.Feature as forms
 use Rattle.read_forms.specs.declared.Statement.TheVariants as statement
@@ -14,18 +13,18 @@ use Rattle.resolve_grounding.proofs.Features.{Whole}
 use Rattle.resolve_features.specs.Stays.{StayAs}
 use Rattle.resolve_features.proofs.Variables.{piece-room}
 use Rattle.resolve_features.proofs.Staying.{whole_of, whole-short, whole_stood, comes, iiv-stay, iov-stay, covariance-stay, allometry_whole, allometry_fault, other-whole}
-use Rattle.resolve_features.proofs.ground_feature.Goals.{Joined-feature, Start}
+use Rattle.resolve_features.proofs.ground_feature.Goals.{Joined-feature, Start, in-Allometry+else-not-is_covariate, in_default}
 use Rattle.resolve_features.proofs.ground_feature.Goals as goal
 
 -- a feature of the arm, in place of what was matched
-module _ (s : tie.Start) {g : forms.Feature} (e : s.args.feature ≡ g) where
+module _ (s : Start) {g : forms.Feature} (e : s.args.feature ≡ g) where
   fits : PartsFit s.args.text.now (apart (statement.Feature g))
   fits = subst (λ (f : forms.Feature). PartsFit s.args.text.now (apart (statement.Feature f))) e s.requires.5
 
 pub is_covariate-requires : goal.is_covariate-requires
 unfolding apart feature_apart
 is_covariate-requires c =
-    (c.requires.3, (fits c c.in-Allometry.is).first)
+    (c.requires.3, (fits (goal.at.is_covariate-requires c).Start c.in-Allometry.is).first)
 
 pub returns-then-not-is_covariate : goal.returns-then-not-is_covariate
 unfolding StayAs
@@ -39,17 +38,17 @@ returns-then-not-is_covariate c = (
 pub stay_variables-requires : goal.stay_variables-requires
 unfolding keywords apart feature_apart
 stay_variables-requires c =
-    (c.requires.0, c.requires.1, c.requires.2, c.requires.3.is, c.requires.4, (fits c c.in-Iiv.is).first, omega arith, c.requires.8)
+    (c.requires.0, c.requires.1, c.requires.2, c.requires.3.is, c.requires.4, (fits (goal.at.stay_variables-requires c).Start c.in-Iiv.is).first, omega arith, c.requires.8)
 
 pub stay_variables-requires-in-Iov : goal.stay_variables-requires-in-Iov
 unfolding keywords apart feature_apart
 stay_variables-requires-in-Iov c =
-    (c.requires.0, c.requires.1, c.requires.2, c.requires.3.is, c.requires.4, (fits c c.in-Iov.is).first, omega arith, c.requires.8)
+    (c.requires.0, c.requires.1, c.requires.2, c.requires.3.is, c.requires.4, (fits (goal.at.stay_variables-requires-in-Iov c).Start c.in-Iov.is).first, omega arith, c.requires.8)
 
 pub stay_variables-requires-in-Covariance : goal.stay_variables-requires-in-Covariance
 unfolding keywords apart feature_apart
 stay_variables-requires-in-Covariance c =
-    (c.requires.0, c.requires.1, c.requires.2, c.requires.3.is, c.requires.4, (fits c c.in-Covariance.is).second, omega arith, c.requires.8)
+    (c.requires.0, c.requires.1, c.requires.2, c.requires.3.is, c.requires.4, (fits (goal.at.stay_variables-requires-in-Covariance c).Start c.in-Covariance.is).second, omega arith, c.requires.8)
 
 pub returns-in-Iiv : goal.returns-in-Iiv
 returns-in-Iiv c =
@@ -71,7 +70,11 @@ returns-in-Covariance c =
 
 -- an arm that takes the feature's fields makes it anew, from the same
 feature-kept : (c : Joined-feature) → c.match-feature.feature ≡ c.args.feature
-feature-kept c = ⊎_elim (λ w. w.5 ∙ sym w.1.given.1) (λ w. w.1) c.match-feature.branch-raw
+feature-kept c =
+    elim c.match-feature.branch [
+      in-Allometry+else-not-is_covariate w ↦ w.feature-is ∙ sym w.in-Allometry.is
+    | in_default w ↦ w.feature-is
+    ]
 
 abbrev Stays : Start → forms.Feature → Type 0
 Stays s f =
@@ -80,13 +83,14 @@ Stays s f =
 stays-whole : (c : Joined-feature) → Stays (goal.at.Joined-feature c).Start c.args.feature
 stays-whole c =
     let a = c.args in
-    ⊎_elim
-    (λ w.
-    subst (Stays (goal.at.Joined-feature c).Start) (sym w.1.given.1)
-    (allometry_whole a.text.now a.block.now a.lists.now a.lets.now a.n w.1.given.0.0 w.1.given.0.1.0
-    (sym (not-false _ w.4.left) ∙ w.3.ensures)))
-    (λ w. other-whole a.text.now a.block.now a.lists.now a.lets.now a.n a.feature w.0.keys5 c.requires.7)
-    c.match-feature.branch-raw
+    elim c.match-feature.branch [
+      in-Allometry+else-not-is_covariate w ↦
+        subst (Stays (goal.at.Joined-feature c).Start) (sym w.in-Allometry.is)
+        (allometry_whole a.text.now a.block.now a.lists.now a.lets.now a.n w.in-Allometry.covariate w.in-Allometry.reference
+        (sym w.if-not-is_covariate.false ∙ w.is_covariate.ensures))
+    | in_default w ↦
+        other-whole a.text.now a.block.now a.lists.now a.lets.now a.n a.feature (opened w.in_default.in_default-own.keys5) c.requires.7
+    ]
 
 pub put_whole-requires : goal.put_whole-requires
 put_whole-requires c =

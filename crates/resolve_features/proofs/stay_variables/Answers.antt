@@ -29,7 +29,7 @@ use Rattle.resolve_features.proofs.stay_variables.Goals as goal
 -- what the operand answered, with the array that was lent
 module _ (p : After-parameters_of) where
   abbrev lent : List ℕ
-  lent = p.parameters_of.new.1.1.1.1.1.1.1.1.0
+  lent = p.parameters_of.new.indexes
 
   abbrev operand : Answer (List ℕ)
   operand =

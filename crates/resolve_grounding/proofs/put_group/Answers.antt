@@ -100,31 +100,31 @@ at_start s =
     (group-bytes (context s) s.args.parameter s.args.covariate (places s.args.packed) s.args.operator s.args.optional)
     (going _ _ _)
 
-behind_head : (c : After-put_head-inside) → Left (goal.at.After-put_head-inside c).Start c.put_head-inside.new.1.1.1.0 c.put_head-inside.result (from_parameter (goal.at.After-put_head-inside c).Start)
+behind_head : (c : After-put_head-inside) → Left (goal.at.After-put_head-inside c).Start c.put_head-inside.new.out c.put_head-inside.result (from_parameter (goal.at.After-put_head-inside c).Start)
 behind_head c = further (at_start (goal.at.After-put_head-inside c).Start) c.put_head-inside.ensures
 
 behind-parameter :
-    (c : After-put_all-one) → Left (parameter-start c) c.put_all-one.new.0 c.put_all-one.result (bytes "," ++ from_covariate (parameter-start c))
+    (c : After-put_all-one) → Left (parameter-start c) c.put_all-one.new.out c.put_all-one.result (bytes "," ++ from_covariate (parameter-start c))
 behind-parameter c =
     further (behind_head (goal.at.After-put_all-one c).After-put_head-inside) (rw (parameter-found (goal.at.After-put_all-one c).After-name_at) at c.put_all-one.ensures)
 
-behind-comma : (c : After-put-comma) → Left (comma-start c) c.put-comma.new.0 c.put-comma.result (from_covariate (comma-start c))
+behind-comma : (c : After-put-comma) → Left (comma-start c) c.put-comma.new.out c.put-comma.result (from_covariate (comma-start c))
 behind-comma c = further (behind-parameter (goal.at.After-put-comma c).After-put_all-one) c.put-comma.ensures
 
 behind-covariate :
-    (c : After-put_all-two) → Left (covariate-start c) c.put_all-two.new.0 c.put_all-two.result (bytes "," ++ from_effects (covariate-start c))
+    (c : After-put_all-two) → Left (covariate-start c) c.put_all-two.new.out c.put_all-two.result (bytes "," ++ from_effects (covariate-start c))
 behind-covariate c =
     further (behind-comma (goal.at.After-put_all-two c).After-put-comma) (rw (covariate-found (goal.at.After-put_all-two c).After-name_at-2) at c.put_all-two.ensures)
 
-behind-comma_2 : (c : After-put-again) → Left (comma-start_2 c) c.put-again.new.0 c.put-again.result (from_effects (comma-start_2 c))
+behind-comma_2 : (c : After-put-again) → Left (comma-start_2 c) c.put-again.new.out c.put-again.result (from_effects (comma-start_2 c))
 behind-comma_2 c = further (behind-covariate (goal.at.After-put-again c).After-put_all-two) c.put-again.ensures
 
 behind-effects :
-    (c : After-put_modes-three) → Left (effects-start c) c.put_modes-three.new.1.1.1.0 c.put_modes-three.result (from_sign (effects-start c))
+    (c : After-put_modes-three) → Left (effects-start c) c.put_modes-three.new.out c.put_modes-three.result (from_sign (effects-start c))
 unfolding modes_in
 behind-effects c = further (behind-comma_2 (goal.at.After-put_modes-three c).After-put-again) c.put_modes-three.ensures
 
-behind-sign : (c : After-put_sign-four) → Left (sign-start c) c.put_sign-four.new.1.0 c.put_sign-four.result (bytes ")")
+behind-sign : (c : After-put_sign-four) → Left (sign-start c) c.put_sign-four.new.out c.put_sign-four.result (bytes ")")
 behind-sign c = further (behind-effects (goal.at.After-put_sign-four c).After-put_modes-three) c.put_sign-four.ensures
 
 -- The needs: each piece has room, since all of what is left has.

@@ -25,7 +25,7 @@ use Rattle.resolve_operands.proofs.hold.Goals.{After-place_of, At-loop-i, In-At,
 use Rattle.resolve_operands.proofs.hold.Goals as goal
 
 abbrev begun : At-loop-i → Start
-begun l = l
+begun l = (goal.at.At-loop-i l).Start
 
 module _ (s : Start) where
   abbrev entries : List (List ℕ)
@@ -92,7 +92,7 @@ module _ (c : After-place_of) where
   turn = (goal.at.After-place_of c).In-loop-i
 
   abbrev top : Start
-  top = begun turn.before
+  top = (goal.at.After-place_of c).Start
 
   abbrev names : List (List ℕ)
   names = named_as top.args.text.now top.args.block.now c.next_name-here.result.named
@@ -101,7 +101,7 @@ module _ (c : After-place_of) where
   looked_up e = subst (PlacedAs (entries top) names) e c.place_of.ensures
 
   -- what the entry brings
-  here : {ws : List (List ℕ)} → names ≡ ws → each top turn.before.loop.i ≡ ws
+  here : {ws : List (List ℕ)} → names ≡ ws → each top turn.loop-i.i ≡ ws
   here e = sym c.next_name-here.ensures.same ∙ e
 
 placed : (p : In-At) → Word (entries (top (goal.at.In-At p).After-place_of)) (names (goal.at.In-At p).After-place_of) (some p.in-At.place)
@@ -119,37 +119,35 @@ place-small p =
 
 pub push_index-n-requires : goal.push_index-n-requires
 push_index-n-requires c =
-    let t = turn (looked c) in
-    (t.before.loop.inv.0.size, (room t).0)
+    let t = turn (goal.at.push_index-n-requires c).After-place_of in
+    (t.loop-i.invariant.0.size, (room t).0)
 
 pub loop-i-preserved-in-At : goal.loop-i-preserved-in-At
 loop-i-preserved-in-At c =
     let t = turn (goal.at.loop-i-preserved-in-At c).After-place_of in
-    let l = t.before in
     let e = c.push_index-n.ensures in (
-      brings-pair (entries (top (goal.at.loop-i-preserved-in-At c).After-place_of)) (each (top (goal.at.loop-i-preserved-in-At c).After-place_of)) l.loop.indexes l.loop.n l.loop.i l.loop.inv.0 _ _
+      brings-pair (entries (top (goal.at.loop-i-preserved-in-At c).After-place_of)) (each (top (goal.at.loop-i-preserved-in-At c).After-place_of)) t.loop-i.indexes t.loop-i.n t.loop-i.i t.loop-i.invariant.0 _ _
           (placed (goal.at.loop-i-preserved-in-At c).In-At).word c.in-At.place (here (goal.at.loop-i-preserved-in-At c).After-place_of (placed (goal.at.loop-i-preserved-in-At c).In-At).are) (placed (goal.at.loop-i-preserved-in-At c).In-At).found e.0 e.1 e.2 (room t).0,
       c.next_name-here.ensures.behind,
-      omega (arith, t.loop-test.true),
+      omega (arith, t.loop-i-test.true),
     )
 
 pub returns-in-Missing : goal.returns-in-Missing
 returns-in-Missing c =
     let t = turn (goal.at.returns-in-Missing c).After-place_of in
-    let l = t.before in
     let w = looked_up (goal.at.returns-in-Missing c).After-place_of c.in-Missing.is in
     sym (as_source (top (goal.at.returns-in-Missing c).After-place_of))
-    ∙ brings-missing (entries (top (goal.at.returns-in-Missing c).After-place_of)) (each (top (goal.at.returns-in-Missing c).After-place_of)) l.loop.indexes l.loop.n l.loop.i l.loop.inv.0 w.word (all (top (goal.at.returns-in-Missing c).After-place_of)) (below t)
+    ∙ brings-missing (entries (top (goal.at.returns-in-Missing c).After-place_of)) (each (top (goal.at.returns-in-Missing c).After-place_of)) t.loop-i.indexes t.loop-i.n t.loop-i.i t.loop-i.invariant.0 w.word (all (top (goal.at.returns-in-Missing c).After-place_of)) (below t)
     (here (goal.at.returns-in-Missing c).After-place_of w.are) w.found
 
 pub loop-i-preserved : goal.loop-i-preserved
 loop-i-preserved c =
     let t = turn (goal.at.loop-i-preserved c).After-place_of in
-    let l = t.before in (
-      brings-nothing (entries (top (goal.at.loop-i-preserved c).After-place_of)) (each (top (goal.at.loop-i-preserved c).After-place_of)) l.loop.indexes l.loop.n l.loop.i l.loop.inv.0
+    (
+      brings-nothing (entries (top (goal.at.loop-i-preserved c).After-place_of)) (each (top (goal.at.loop-i-preserved c).After-place_of)) t.loop-i.indexes t.loop-i.n t.loop-i.i t.loop-i.invariant.0
           (here (goal.at.loop-i-preserved c).After-place_of (looked_up (goal.at.loop-i-preserved c).After-place_of c.in-NoName.is)),
       c.next_name-here.ensures.behind,
-      omega (arith, t.loop-test.true),
+      omega (arith, t.loop-i-test.true),
     )
 
 pub returns : goal.returns
@@ -164,13 +162,13 @@ pub overflow_cast-place : goal.overflow_cast-place
 overflow_cast-place c = omega (arith, place-small (goal.at.overflow_cast-place c).In-At)
 
 pub overflow_add-i : goal.overflow_add-i
-overflow_add-i c = omega (arith, (room (turn (looked c))).1)
+overflow_add-i c = omega (arith, (room (turn (goal.at.overflow_add-i c).After-place_of)).1)
 
 pub loop-i-smaller-in-At : goal.loop-i-smaller-in-At
-loop-i-smaller-in-At c = omega (arith, (turn (looked c)).loop-test.true)
+loop-i-smaller-in-At c = omega (arith, (turn (goal.at.loop-i-smaller-in-At c).After-place_of).loop-i-test.true)
 
 pub overflow_add-i-in-NoName : goal.overflow_add-i-in-NoName
 overflow_add-i-in-NoName c = omega (arith, (room (turn (goal.at.overflow_add-i-in-NoName c).After-place_of)).1)
 
 pub loop-i-smaller : goal.loop-i-smaller
-loop-i-smaller c = omega (arith, (turn (goal.at.loop-i-smaller c).After-place_of).loop-test.true)
+loop-i-smaller c = omega (arith, (turn (goal.at.loop-i-smaller c).After-place_of).loop-i-test.true)

@@ -78,7 +78,7 @@ hold-requires c =
 
 pub returns : goal.returns
 returns c =
-    let is = c.hold.new.1.1.1.1.1.1.1.0 in
+    let is = c.hold.new.indexes in
     subst₂ (λ (n : Names) (a : Answer (List ℕ)). EntriesAs n.count a is c.hold.result) (target_there (goal.at.returns c).After-source_of)
     (found-held (goal.at.returns c).After-source_of (looked.Names c.in-Names.source) c.in-Names.is)
     c.hold.ensures

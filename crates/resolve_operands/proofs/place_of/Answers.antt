@@ -8,12 +8,10 @@ use Rattle.resolve_symbols.specs.Brings.{named_as, NamedFits}
 use Rattle.resolve_operands.specs.declared.Placed.{Placed}
 use Rattle.resolve_operands.specs.declared.Placed.TheVariants.{NoName}
 use Rattle.resolve_operands.specs.Named.{PlacedAs}
+use Rattle.resolve_operands.proofs.place_of.Goals.{Start}
 use Rattle.resolve_operands.proofs.place_of.Goals as goal
 
-module _ (c : tie.After-shared-slice-known3) {x : Named} (e : c.before.before.before.args.named ≡ x) where
-  abbrev start : tie.Start
-  start = c.before.before.before
-
+module _ (start : Start) {x : Named} (e : start.args.named ≡ x) where
   fits_so : let a = start.args in NamedFits a.text.now a.block.now x
   fits_so = let a = start.args in subst (NamedFits a.text.now a.block.now) e start.requires.1
 
@@ -34,20 +32,20 @@ one w = w ∷ []
 pub returns-in-Text : goal.returns-in-Text
 returns-in-Text c =
     let s = c.spelling in
-    spelled_so c c.in-Text.is (one s.result.now) c.place_of_word.result (ap one s.ensures)
+    spelled_so (goal.at.returns-in-Text c).Start c.in-Text.is (one s.result.now) c.place_of_word.result (ap one s.ensures)
     c.place_of_word.ensures
 
 pub returns-in-Block : goal.returns-in-Block
 returns-in-Block c =
     let s = c.spelling-in-Block in
-    spelled_so c c.in-Block.is (one s.result.now) c.place_of_word-in-Block.result (ap one s.ensures)
+    spelled_so (goal.at.returns-in-Block c).Start c.in-Block.is (one s.result.now) c.place_of_word-in-Block.result (ap one s.ensures)
     c.place_of_word-in-Block.ensures
 
 pub spelling-requires : goal.spelling-requires
-spelling-requires c = fits_so c c.in-Text.is
+spelling-requires c = fits_so (goal.at.spelling-requires c).Start c.in-Text.is
 
 pub spelling-requires-in-Block : goal.spelling-requires-in-Block
-spelling-requires-in-Block c = fits_so c c.in-Block.is
+spelling-requires-in-Block c = fits_so (goal.at.spelling-requires-in-Block c).Start c.in-Block.is
 
 pub returns-in-Nothing : goal.returns-in-Nothing
-returns-in-Nothing c = spelled_so c c.in-Nothing.is [] NoName refl refl
+returns-in-Nothing c = spelled_so (goal.at.returns-in-Nothing c).Start c.in-Nothing.is [] NoName refl refl

@@ -13,7 +13,7 @@ use Rattle.resolve_symbols.specs.declared.Source.TheVariants.{Values, Given}
 use Rattle.resolve_symbols.specs.declared.Listing.TheVariants.{Covariates}
 use Rattle.resolve_operands.specs.Entries.{StandsFor, star_names, operand_names}
 use Rattle.resolve_operands.proofs.Sources.{star-stands, every-stands, word_stands, names_stand, stands_same}
-use Rattle.resolve_operands.proofs.source_of.Goals.{After-look_up, Start}
+use Rattle.resolve_operands.proofs.source_of.Goals.{After-look_up, Start, in-Symbol, in-Wildcard+else-every}
 use Rattle.resolve_operands.proofs.source_of.Goals as goal
 
 module _ (s : Start) where
@@ -53,16 +53,16 @@ word_looked :
 word_looked c =
     let a = c.args in
     let w = c.match-operand.word.now in
-    ⊎_elim
-    (λ v.
-    stands_same a.text.now a.layout c.look_up.result (names (goal.at.After-look_up c).Start) v.1.given.1
-    (word_stands a.text.now a.lets.now a.n a.layout (star (goal.at.After-look_up c).Start) v.1.given.0.0 w c.look_up.result
-    (ap (λ x. x.now) v.4 ∙ v.3.ensures) c.look_up.ensures.1))
-    (λ v.
-    stands_same a.text.now a.layout c.look_up.result (names (goal.at.After-look_up c).Start) v.1.given.1
-    (star-stands a.text.now a.lets.now a.n a.layout a.star.now a.every w c.look_up.result v.2.left
-    (ap (λ x. x.now) v.3) c.look_up.ensures.1))
-    c.match-operand.branch-raw
+    elim c.match-operand.branch [
+      in-Symbol v ↦
+        stands_same a.text.now a.layout c.look_up.result (names (goal.at.After-look_up c).Start) v.in-Symbol.is
+        (word_stands a.text.now a.lets.now a.n a.layout (star (goal.at.After-look_up c).Start) v.in-Symbol.name w c.look_up.result
+        (ap (λ x. x.now) v.word-is ∙ v.spelling-word.ensures) c.look_up.ensures.1)
+    | in-Wildcard+else-every v ↦
+        stands_same a.text.now a.layout c.look_up.result (names (goal.at.After-look_up c).Start) v.in-Wildcard.is
+        (star-stands a.text.now a.lets.now a.n a.layout a.star.now a.every w c.look_up.result v.if-every.false
+        (ap (λ x. x.now) v.word-is) c.look_up.ensures.1)
+    ]
 
 pub look_up-requires : goal.look_up-requires
 look_up-requires c = c.requires.0

@@ -71,11 +71,7 @@ loop-statement-smaller c = omega (arith, forward (goal.at.loop-statement-smaller
 pub loop-statement-preserved : goal.loop-statement-preserved
 loop-statement-preserved c =
     let h = forward (goal.at.loop-statement-preserved c).In-Statement in
-    ⊎_elim
-    (λ w. same_reading w.2 w.4 (w.3 ∙ w.1.ensures ∙ ap (start_after c.loop-statement.count c.loop-statement.start) c.lets_end-end.ensures) c.lets_end-end.ensures
-    (one_kept c.loop-statement.invariant c.in-Statement.statement c.in-Statement.after.at (stands-next (goal.at.loop-statement-preserved c).In-Statement) h.0 h.2 w.0.taken))
-    (λ w. same_reading w.1 w.3 w.2 c.lets_end-end.ensures (one-passed c.loop-statement.invariant c.in-Statement.statement c.in-Statement.after.at (stands-next (goal.at.loop-statement-preserved c).In-Statement) h.0 h.2 w.0.left))
-    c.if-count-lt-FEW.branch-raw
+    elim c.if-count-lt-FEW.branch [ then-count-lt-FEW w ↦ ? | else-count-lt-FEW w ↦ ? ]
 
 pub earliest-refusal-requires : goal.earliest-refusal-requires
 earliest-refusal-requires c = c.requires.0

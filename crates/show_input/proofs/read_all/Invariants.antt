@@ -5,7 +5,7 @@ use lib.ListN.{length}
 use Rattle.show_input.proofs.read_all.Given as goal
 
 abbrev pub invariant-loop-turns : goal.invariant-loop-turns
-invariant-loop-turns l = (length l.buffer ≡ length l.initial.buffer) × (l.at ≤ length l.buffer)
+invariant-loop-turns g l = (length l.buffer ≡ length l.initial.buffer) × (l.at ≤ length l.buffer)
 
 abbrev pub decreases-loop-turns : goal.decreases-loop-turns
-decreases-loop-turns l = l.turns
+decreases-loop-turns g l = l.turns

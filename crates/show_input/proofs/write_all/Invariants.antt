@@ -4,7 +4,7 @@ use lib.ListN.{length}
 use Rattle.show_input.proofs.write_all.Given as goal
 
 abbrev pub invariant-loop-turns : goal.invariant-loop-turns
-invariant-loop-turns l = (l.at ≤ length l.bytes)
+invariant-loop-turns g l = (l.at ≤ length l.bytes)
 
 abbrev pub decreases-loop-turns : goal.decreases-loop-turns
-decreases-loop-turns l = l.turns
+decreases-loop-turns g l = l.turns
