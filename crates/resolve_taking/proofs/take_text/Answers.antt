@@ -3,7 +3,6 @@
 -- Assumes nothing.
 use Prim.Native.Nat.{suc, ◌≤◌, ◌<◌}
 use mathlib.Core.Path.{◌≡◌, refl, ◌∙◌, ap, sym, subst}
-use mathlib.Core.Logic.{⊎_elim}
 use native.Mathlib.Omega.{arith}
 use lib.ListN.{length}
 use borrow.Author.Rules.{rules}
@@ -24,7 +23,7 @@ use Rattle.resolve_taking.proofs.Reading.{Reading, none_read, refused-read, one_
 use Rattle.resolve_taking.proofs.Gathering.{still_quiet, started, all_gathered, feature-passed, key-again, one-gathered, let_stands}
 use Rattle.resolve_taking.proofs.Bringing.{none-brought, one-brought, one-refused, all-brought}
 use Rattle.resolve_taking.proofs.Refusing.{text-refused, context-refused, let-refused, statement-refused}
-use Rattle.resolve_taking.proofs.take_text.Goals.{After-bring_one, After-later-1, After-loop-i, After-statement_at-again, After-statement_at-again-in-loop-k, At-loop-i, Else-has_let, In-End, In-Let, In-Refused-bring_one, In-Statement, In-loop-i, In-loop-k}
+use Rattle.resolve_taking.proofs.take_text.Goals.{After-bring_one, After-later-1, After-loop-i, After-statement_at-again, After-statement_at-again-in-loop-k, At-loop-i, Else-has_let, In-End, In-Let, In-Refused-bring_one, In-Statement, In-loop-i, In-loop-k, then-count-lt-FEW, else-count-lt-FEW}
 use Rattle.resolve_taking.proofs.take_text.Goals as goal
 
 -- Reading.
@@ -71,7 +70,15 @@ loop-statement-smaller c = omega (arith, forward (goal.at.loop-statement-smaller
 pub loop-statement-preserved : goal.loop-statement-preserved
 loop-statement-preserved c =
     let h = forward (goal.at.loop-statement-preserved c).In-Statement in
-    elim c.if-count-lt-FEW.branch [ then-count-lt-FEW w ↦ ? | else-count-lt-FEW w ↦ ? ]
+    elim c.if-count-lt-FEW.branch [
+      then-count-lt-FEW w ↦
+        same_reading w.forms-is w.later-is
+        (w.start-is ∙ w.lets_start-start.ensures ∙ ap (start_after c.loop-statement.count c.loop-statement.start) c.lets_end-end.ensures) c.lets_end-end.ensures
+        (one_kept c.loop-statement.invariant c.in-Statement.statement c.in-Statement.after.at (stands-next (goal.at.loop-statement-preserved c).In-Statement) h.0 h.2 w.if-count-lt-FEW.true)
+    | else-count-lt-FEW w ↦
+        same_reading w.forms-is w.later-is w.start-is c.lets_end-end.ensures
+        (one-passed c.loop-statement.invariant c.in-Statement.statement c.in-Statement.after.at (stands-next (goal.at.loop-statement-preserved c).In-Statement) h.0 h.2 w.if-count-lt-FEW.false)
+    ]
 
 pub earliest-refusal-requires : goal.earliest-refusal-requires
 earliest-refusal-requires c = c.requires.0

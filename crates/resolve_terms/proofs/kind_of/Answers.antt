@@ -13,7 +13,7 @@ use Rattle.resolve_terms.proofs.kind_of.Goals as goal
 
 pub returns-then-not-layout : goal.returns-then-not-layout
 returns-then-not-layout c =
-    sym (kind_undeclared c.args.block.now c.args.lists.now c.args.layout c.requires.0 c.args.index (c.if-not-layout.true))
+    sym (kind_undeclared c.args.block.now c.args.lists.now c.args.layout c.requires.0 c.args.index (not-true _ c.if-not-layout.true))
 
 -- with a block, the list of covariates is that of the block
 module _ (y : Layout) (i : ℕ) (e : y.declares ≡ true) where
@@ -22,12 +22,12 @@ module _ (y : Layout) (i : ℕ) (e : y.declares ≡ true) where
 
 pub kind_at-requires : goal.kind_at-requires
 kind_at-requires c = (
-  in_block c.args.layout c.args.index (c.if-not-layout.false) c.requires.1,
+  in_block c.args.layout c.args.index (not-false _ c.if-not-layout.false) c.requires.1,
   kinds-within c.args.block.now c.args.lists.now c.args.layout c.requires.0,
 )
 
 pub returns : goal.returns
 returns c =
     ap {B = Option CovariateKind} some c.kind_at.ensures
-    ∙ sym (kind-declared c.args.block.now c.args.lists.now c.args.layout c.requires.0 c.args.index (c.if-not-layout.false)
-    (in_block c.args.layout c.args.index (c.if-not-layout.false) c.requires.1))
+    ∙ sym (kind-declared c.args.block.now c.args.lists.now c.args.layout c.requires.0 c.args.index (not-false _ c.if-not-layout.false)
+    (in_block c.args.layout c.args.index (not-false _ c.if-not-layout.false) c.requires.1))
