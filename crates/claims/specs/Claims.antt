@@ -24,7 +24,7 @@ use Rattle.resolving_laws.specs.Claims.{SameEffects, is_dropped}
 use Rattle.claims.specs.Values.{Value, value_in, same_value}
 
 abbrev pub full_size : Lengths
-full_size = record { ground = 16384; effects = 2048; notes = 257 }
+full_size = let ground : ℕ = 16384 in record { ground = ground; effects = 2048; notes = 257 }
 
 -- What Statement gives at each of the first so many indexes, "once each pair is replaced by the bytes it points to".
 abbrev pub stated : Answer Statement → List Statement

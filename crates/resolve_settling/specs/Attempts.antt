@@ -39,8 +39,8 @@ pub record EffectsGrouped (c : Context) (t : Tally) (dropped work listed : List 
 
 -- an answer, or none, and then nothing was put out
 unfoldable pub AttemptAs : Answer definition.Resolved → List ℕ → ℕ → List (List ℕ) → List ℕ → List (List ℕ) → List ℕ → Attempt → Type 0
-AttemptAs a ground room notes ground' notes' work' (attempt.Answer r) = Answers a ground room notes ground' notes' work' r
-AttemptAs a ground room notes ground' notes' work' attempt.NoRoom = (ground' ≡ ground) × (notes' ≡ notes)
+AttemptAs a made room notes ground' notes' work' (attempt.Answer r) = Answers a made room notes ground' notes' work' r
+AttemptAs a made room notes ground' notes' work' attempt.NoRoom = (ground' ≡ made) × (notes' ≡ notes)
 
 -- there is none only where what is made has less room than a ground text may need
 unfoldable pub Roomy : List ℕ → Attempt → Type 0
