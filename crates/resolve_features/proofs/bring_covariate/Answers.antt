@@ -182,10 +182,10 @@ pub slice_bounds-any_against-end : goal.slice_bounds-any_against-end
 slice_bounds-any_against-end c = sym (picked_many (picked_2 (goal.at.slice_bounds-any_against-end c).In-Count-covariates_of))
 
 pub head_of-head-requires : goal.head_of-head-requires
-head_of-head-requires c = (begun (passed c)).requires.6
+head_of-head-requires c = (begun (goal.at.head_of-head-requires c).In-Count-covariates_of).requires.6
 
 pub slice_bounds-put_terms-end : goal.slice_bounds-put_terms-end
-slice_bounds-put_terms-end c = sym (picked_many (picked (firstly (passed c))))
+slice_bounds-put_terms-end c = sym (picked_many (picked (firstly (goal.at.slice_bounds-put_terms-end c).In-Count-covariates_of)))
 
 pub slice_bounds-put_terms-end-2 : goal.slice_bounds-put_terms-end-2
-slice_bounds-put_terms-end-2 c = sym (picked_many (picked_2 (passed c)))
+slice_bounds-put_terms-end-2 c = sym (picked_many (picked_2 (goal.at.slice_bounds-put_terms-end-2 c).In-Count-covariates_of))
