@@ -1,5 +1,5 @@
-/* Dumachik's calls: MFL texts counted, printed, given by value, held to the PK-only profile and resolved. `rt staticlib dumachik` proves them and
- * writes target/staticlib/libdumachik.a, for x86-64. Of other libraries it needs memcpy and memset alone.
+/* Dumachik's calls: MFL texts counted, printed, given by value, held to the PK-only profile and resolved. `rt lib` in crates/dumachik proves
+ * them and writes crates/dumachik/out/libdumachik.a, for x86-64. Of other libraries it needs memcpy and memset alone.
  *
  * No call allocates, keeps state or copies the text, and only mfl_resolve takes a working buffer. Any bytes may be given: a text need not be
  * UTF-8, and bytes of 128 and more may stand only in a comment. No output may overlap another or an input. Where a length is 0 its pointer is
