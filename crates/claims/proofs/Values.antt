@@ -69,7 +69,7 @@ use Rattle.reading.specs.Parts.{
   parts_of,
 }
 use Rattle.reading_laws.specs.Moved.{move_name, move_item, move_operand, move_part}
-use Rattle.reading_laws.specs.Spelled.{item_names, part_names, parts_names, statement_names, StandIn, no_name, one_before}
+use Rattle.reading_laws.specs.Spelled.{end_of, item_names, part_names, parts_names, statement_names, StandIn, no_name, one_before}
 use Rattle.reading_laws.proofs.Among.{among-all, among_first, among-last}
 use Rattle.reading_laws.proofs.Spelled.{stand_some}
 use Rattle.reading_laws.proofs.Parts.{parts_moved}
@@ -162,8 +162,8 @@ module _ (text : List ℕ) where
       → replaced text (these (repeated (length is) (values.a_number ∷ a_pair ∷ []))) (items_numbers is ++ ns) ≡ items_entries is ++ behind ns
   unfolding replaced
   items_spelled [] no_name ns = refl
-  items_spelled (i ∷ is) (one_before l s r) ns =
-      ap₂ (λ (b : List ℕ) (v : Value). as_number (kind_number i.kind) ∷ as_bytes b ∷ v) s.same (items_spelled is r ns)
+  items_spelled {o = o} (i ∷ is) (one_before l s r) ns =
+      ap₂ (λ (b : List ℕ) (v : Value). as_number (kind_number i.kind) ∷ as_bytes b ∷ v) s.same (items_spelled {o = end_of i.name} is r ns)
 
   part-spelled : {o : ℕ} (p : Part) → StandIn text o (part_names p) → (ns : List ℕ) → behind (part_numbers p ++ ns) ≡ part_entries p ++ behind ns
   unfolding replaced

@@ -12,7 +12,7 @@ slice_bounds-put_space-end c = search rules
 
 pub slice_bounds-put_space-end-2 : goal.slice_bounds-put_space-end-2
 slice_bounds-put_space-end-2 c =
-    sym (length-take-le _ c.args.out.now (slice_relend_prefix_put_space c))
+    sym (length-take-le _ c.args.out.now (search rules))
 
 pub returns-then-room-size : goal.returns-then-room-size
 returns-then-room-size c =

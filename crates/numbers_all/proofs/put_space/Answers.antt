@@ -25,7 +25,7 @@ known l =
     l.loop-i.invariant l.requires.2.limit l.requires.2.read
 
 pub loop-i-init : goal.loop-i-init
-loop-i-init c = none-put (λ (f : Form). f.statement) limit _ _ _ _ e (all_held (goal.at.loop-i-init c).Start)
+loop-i-init c limit e = none-put (λ (f : Form). f.statement) limit _ _ _ _ e (all_held (goal.at.loop-i-init c).Start)
 
 pub offset_bounds-forms-i : goal.offset_bounds-forms-i
 offset_bounds-forms-i c = omega (arith, index_below (goal.at.offset_bounds-forms-i c).In-loop-i)
@@ -46,7 +46,7 @@ pub loop-i-smaller : goal.loop-i-smaller
 loop-i-smaller c = omega (arith, c.loop-i-test.true)
 
 pub loop-i-preserved : goal.loop-i-preserved
-loop-i-preserved c =
+loop-i-preserved c limit e =
     one-put (λ (f : Form). f.statement) (c.loop-i.invariant limit e) _ c.loop-i-test.true c.put_counted-at.ensures
 
 pub shape_of-out : goal.shape_of-out

@@ -11,7 +11,7 @@ slice_bounds-put_parts-end c = search rules
 
 pub slice_bounds-put_parts-end-2 : goal.slice_bounds-put_parts-end-2
 slice_bounds-put_parts-end-2 c =
-    sym (length-take-le _ c.args.out.now (slice_relend_prefix_put_parts c))
+    sym (length-take-le _ c.args.out.now (search rules))
 
 pub returns-then-room-size : goal.returns-then-room-size
 returns-then-room-size c =

@@ -22,4 +22,4 @@ returns-in-Length c =
 
 pub returns-in-Refused : goal.returns-in-Refused
 returns-in-Refused c =
-    let w = subst (λ (x : Printed). Answers (print_text c.args.limit c.args.text.now) c.args.page.now c.print_under.new.out (printed_as x)) c.in-Refused.is c.print_under.ensures in record { written = refused-line c.args.limit c.args.text.now c.args.page.now c.print_under.new.out c.requires.3 w c.Put-refused.ensures; answer_value = told c.args.limit c.args.text.now c.args.page.now c.print_under.new.out c.requires.3 w }
+    let w = subst (λ (x : Printed). Answers (print_text c.args.limit c.args.text.now) c.args.page.now c.print_under.new.out (printed_as x)) c.in-Refused.is c.print_under.ensures in record { written = refused-line c.args.limit c.args.text.now c.args.page.now c.print_under.new.out c.requires.3 w c.put_refused.ensures; answer_value = told c.args.limit c.args.text.now c.args.page.now c.print_under.new.out c.requires.3 w }

@@ -25,4 +25,4 @@ returns-in-Fits c =
 pub returns-in-Refused : goal.returns-in-Refused
 unfolding profiled_as line_of
 returns-in-Refused c =
-    let e = told c.profile_under.ensures c.in-Refused.is in record { written = rw (sym (line _ _ e)) c.Put-refused.ensures; answer_value = e }
+    let e = told c.profile_under.ensures c.in-Refused.is in record { written = rw (sym (line _ _ e)) c.put_refused.ensures; answer_value = e }

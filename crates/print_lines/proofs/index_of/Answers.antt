@@ -8,4 +8,4 @@ use mir.Syntax.{w8}
 use Rattle.print_lines.proofs.index_of.Goals as goal
 
 pub returns : goal.returns
-returns c = (refl, let h : Fits w8 (get_or c.args.t1 1 0) = search rules in omega (arith, h.fits))
+returns c = (refl, let h : Fits w8 (get_or c.args.note 1 0) = search rules in omega (arith, h.fits))

@@ -16,19 +16,19 @@ use Rattle.print_lines.proofs.put_effect.Goals as goal
 
 -- the pieces: the parameter, the covariate, and what is behind them
 abbrev parameter : Start → List ℕ
-parameter s = get_or (names_in s.args.block.now s.args.lists.now s.args.layout.parameters) (get_or s.args.t5 0 0) []
+parameter s = get_or (names_in s.args.block.now s.args.lists.now s.args.layout.parameters) (get_or s.args.effect 0 0) []
 
 abbrev covariate : Start → List ℕ
-covariate s = get_or (names_in s.args.block.now s.args.lists.now (covariates_of s.args.layout)) (get_or s.args.t5 1 0) []
+covariate s = get_or (names_in s.args.block.now s.args.lists.now (covariates_of s.args.layout)) (get_or s.args.effect 1 0) []
 
 abbrev behind : Start → List ℕ
-behind s = bytes " " ++ form_words (effect_in s.args.t5)
+behind s = bytes " " ++ form_words (effect_in s.args.effect)
 
 abbrev all : Start → List ℕ
 all s = parameter s ++ (bytes " " ++ (covariate s ++ behind s))
 
 room : (s : Start) → Room s.args.at (all s)
-room s = room-same s.args.at (effect_by_names s.args.block.now s.args.lists.now s.args.layout s.requires.0 (effect_in s.args.t5)) s.requires.2
+room s = room-same s.args.at (effect_by_names s.args.block.now s.args.lists.now s.args.layout s.requires.0 (effect_in s.args.effect)) s.requires.2
 
 pub put_name-a-requires : goal.put_name-a-requires
 put_name-a-requires c =
@@ -56,7 +56,7 @@ named d = rw d.covariates-covariates.ensures at d.put_name-c.ensures
 
 pub put-d-requires : goal.put-d-requires
 put-d-requires c =
-    room-first (bytes " ") (form_words (effect_in c.args.t5)) (room (goal.at.put-d-requires c).Start)
+    room-first (bytes " ") (form_words (effect_in c.args.effect)) (room (goal.at.put-d-requires c).Start)
     (further (further (further (going _ _ _) c.put_name-a.ensures) c.put-b.ensures) (named (goal.at.put-d-requires c).After-put_name-c))
 
 pub put_form-requires : goal.put_form-requires
@@ -67,5 +67,5 @@ put_form-requires c = (
 
 pub returns : goal.returns
 returns c =
-    rw (effect_by_names c.args.block.now c.args.lists.now c.args.layout c.requires.0 (effect_in c.args.t5))
+    rw (effect_by_names c.args.block.now c.args.lists.now c.args.layout c.requires.0 (effect_in c.args.effect))
     (finished (further (further (further (further (going _ _ _) c.put_name-a.ensures) c.put-b.ensures) (named (goal.at.returns c).After-put_name-c)) c.put-d.ensures) c.put_form.ensures)

@@ -44,7 +44,7 @@ returns c =
           taken (stands (goal.at.returns c).Else-token-gt-NUMBER) limit call p items (omega (arith, l, c.if-count-ge64.false))
           ∙ c.after_entry.ensures.by_index limit call p (items ++ entries 1 (tokens_from s o)));
       entry_further = entry-further (stands (goal.at.returns c).Else-token-gt-NUMBER) (after_entries 1 (tokens_from s o)) c.after_entry.result
-            (subst (λ (ts : Tokens). EntryFurther s c.token-token.result.next.at ts c.after_entry.result) (sym (behind (stands (goal.at.returns c).Else-token-gt-NUMBER)))
-            c.after_entry.ensures.entry_further);
+          (subst (λ (ts : Tokens). EntryFurther s c.token-token.result.next.at ts c.after_entry.result) (sym (behind (stands (goal.at.returns c).Else-token-gt-NUMBER)))
+          c.after_entry.ensures.entry_further);
       entry_listed = entry_listed (stands (goal.at.returns c).Else-token-gt-NUMBER) _ c.after_entry.result c.if-count-ge64.false;
     }

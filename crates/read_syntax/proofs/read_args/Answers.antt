@@ -39,26 +39,26 @@ unfolding added_at
 grown d =
     let n = d.loop-arg.count in
     elim d.match-count.branch [
-      in-0 w ↦ simp (eq-eqb n 0 w.in-0.is, w.first-is, w.second-is, w.third-is, w.fourth-is)
-    | in-1 w ↦ let k = w.in-1.is in simp (ne_eqb n 0 (λ q. omega arith), eq-eqb n 1 k, w.first-is, w.second-is, w.third-is, w.fourth-is)
-    | in-2 w ↦
-        let k = w.in-2.is in
-        simp (ne_eqb n 0 (λ q. omega arith), ne_eqb n 1 (λ q. omega arith), eq-eqb n 2 k, w.first-is, w.second-is, w.third-is, w.fourth-is)
-    | in-3 w ↦
-        let k = w.in-3.is in
-        simp (
-          ne_eqb n 0 (λ q. omega arith),
-          ne_eqb n 1 (λ q. omega arith),
-          ne_eqb n 2 (λ q. omega arith),
-          eq-eqb n 3 k,
-          w.first-is,
-          w.second-is,
-          w.third-is,
-          w.fourth-is,
-        )
-    | in_default w ↦
-        let r = w.in_default.in_default-own.rest in
-        simp (ne_eqb n 0 r.0.0.0.1, ne_eqb n 1 r.0.0.1, ne_eqb n 2 r.0.1, ne_eqb n 3 r.1, w.first-is, w.second-is, w.third-is, w.fourth-is)
+      | in-0 w ↦ simp (eq-eqb n 0 w.in-0.is, w.first-is, w.second-is, w.third-is, w.fourth-is)
+      | in-1 w ↦ let k = w.in-1.is in simp (ne_eqb n 0 (λ q. omega arith), eq-eqb n 1 k, w.first-is, w.second-is, w.third-is, w.fourth-is)
+      | in-2 w ↦
+          let k = w.in-2.is in
+          simp (ne_eqb n 0 (λ q. omega arith), ne_eqb n 1 (λ q. omega arith), eq-eqb n 2 k, w.first-is, w.second-is, w.third-is, w.fourth-is)
+      | in-3 w ↦
+          let k = w.in-3.is in
+          simp (
+            ne_eqb n 0 (λ q. omega arith),
+            ne_eqb n 1 (λ q. omega arith),
+            ne_eqb n 2 (λ q. omega arith),
+            eq-eqb n 3 k,
+            w.first-is,
+            w.second-is,
+            w.third-is,
+            w.fourth-is,
+          )
+      | in_default w ↦
+          let r = w.in_default.in_default-own.rest in
+          simp (ne_eqb n 0 r.0.0.0.1, ne_eqb n 1 r.0.0.1, ne_eqb n 2 r.0.1, ne_eqb n 3 r.1, w.first-is, w.second-is, w.third-is, w.fourth-is)
     ]
 
 -- how reading goes on from where an argument may start

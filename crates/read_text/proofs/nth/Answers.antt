@@ -47,12 +47,12 @@ sought_behind c =
     let n = suc c.loop-form.n in
     let g = c.loop-form.invariant.sought in
     elim c.if-n-index.branch [
-      then-n-index w ↦
-        subst (Behind (goal.at.Joined-n-index c).In-Statement n) (sym w.kept-is)
-        (kept_here g _ _ (told (goal.at.Joined-n-index c).In-Statement) w.if-n-index.true)
-    | else-n-index w ↦
-        subst (Behind (goal.at.Joined-n-index c).In-Statement n) (sym w.kept-is)
-        (passed_by g _ _ (told (goal.at.Joined-n-index c).In-Statement) w.if-n-index.false)
+      | then-n-index w ↦
+          subst (Behind (goal.at.Joined-n-index c).In-Statement n) (sym w.kept-is)
+          (kept_here g _ _ (told (goal.at.Joined-n-index c).In-Statement) w.if-n-index.true)
+      | else-n-index w ↦
+          subst (Behind (goal.at.Joined-n-index c).In-Statement n) (sym w.kept-is)
+          (passed_by g _ _ (told (goal.at.Joined-n-index c).In-Statement) w.if-n-index.false)
     ]
 
 pub loop-form-init : goal.loop-form-init

@@ -10,11 +10,11 @@ use Rattle.resolving.specs.Call.{resolving_call, lengths_of, effect_numbers}
 use Rattle.resolve_merging.specs.Packing.{effect_of}
 use Rattle.resolve_settling.specs.Answers.{effects_in, lent}
 use Rattle.resolve_call.proofs.Packed.{effects-fit, effects-stand, effects-put}
-use Rattle.resolve_call.proofs.resolve_under.Goals.{After-effect_count-count}
+use Rattle.resolve_call.proofs.resolve_under.Goals.{After-effect_count-count, Start}
 use Rattle.resolve_call.proofs.resolve_under.Goals as goal
 
 abbrev start : After-effect_count-count → Start
-start m = m
+start m = (goal.at.After-effect_count-count m).Start
 
 -- the call's answer
 abbrev answer : After-effect_count-count → Answer definition.Resolved

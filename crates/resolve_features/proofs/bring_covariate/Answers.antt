@@ -49,7 +49,7 @@ looked p e =
     p.parameters_of.ensures
 
 abbrev top : After-covariates_of → Start
-top v = v
+top v = (goal.at.After-covariates_of v).Start
 
 looked_2 : (v : After-covariates_of) {r : Entries} → v.covariates_of.result ≡ r
     → let s = top v in EntriesAs (covariates_of s.args.layout).count (second_of (call s)) (lent_2 v) r
@@ -66,7 +66,7 @@ module _ (k : In-Count) where
   abbrev own : ℕ
   own = k.in-Count.count
 
-  picked : let s = answered in Picked s.args.layout.parameters.count (first_of (call s)) (lent answered) own
+  picked : let s = (goal.at.In-Count k).Start in Picked s.args.layout.parameters.count (first_of (call s)) (lent answered) own
   picked = looked answered k.in-Count.is
 
   abbrev list : List ℕ
@@ -87,10 +87,10 @@ module _ (k : In-Count-covariates_of) where
   list_2 = take others (lent_2 answered_2)
 
   abbrev firstly : In-Count
-  firstly = answered_2.before.before
+  firstly = (goal.at.In-Count-covariates_of k).In-Count
 
   abbrev begun : Start
-  begun = start (answered firstly)
+  begun = (goal.at.In-Count-covariates_of k).Start
 
   found : Found (call begun) (list firstly) list_2
   found =
@@ -109,7 +109,7 @@ parameters_of-requires c =
 
 pub covariates_of-requires : goal.covariates_of-requires
 covariates_of-requires c =
-    let s = start (answered (goal.at.covariates_of-requires c).In-Count) in
+    let s = (goal.at.covariates_of-requires c).Start in
     (s.requires.0, s.requires.1.is, s.requires.2, s.requires.4, refl)
 
 pub returns-in-Refused : goal.returns-in-Refused
@@ -151,14 +151,14 @@ returns-then-any_against c =
     (covariate-against (found (goal.at.returns-then-any_against c).In-Count-covariates_of) (some_own (goal.at.returns-then-any_against c).Else-own-eq0) (some_others (goal.at.returns-then-any_against c).Else-others-eq0) c.any_against.ensures c.if-any_against.true, refl)
 
 pub slice_bounds-first-end : goal.slice_bounds-first-end
-slice_bounds-first-end h = let q = picked (firstly (passed h)) in omega (arith, q.few, q.size)
+slice_bounds-first-end h = let q = picked (firstly (goal.at.slice_bounds-first-end h).In-Count-covariates_of) in omega (arith, q.few, q.size)
 
 pub slice_bounds-second-end-2 : goal.slice_bounds-second-end-2
-slice_bounds-second-end-2 c = array_share_prefix_second c
+slice_bounds-second-end-2 c = let q = picked_2 (goal.at.slice_bounds-second-end-2 c).In-Count-covariates_of in omega (arith, q.few, q.size)
 
 pub put_terms-requires : goal.put_terms-requires
 put_terms-requires c =
-    let k = passed c in
+    let k = (goal.at.put_terms-requires c).In-Count-covariates_of in
     let s = begun k in
     let a = s.args in
     let few = numbers-few (found k) c.head_of-head.result in (
@@ -182,10 +182,10 @@ pub slice_bounds-any_against-end : goal.slice_bounds-any_against-end
 slice_bounds-any_against-end c = sym (picked_many (picked_2 (goal.at.slice_bounds-any_against-end c).In-Count-covariates_of))
 
 pub head_of-head-requires : goal.head_of-head-requires
-head_of-head-requires c = (begun (passed c)).requires.6
+head_of-head-requires c = (begun (goal.at.head_of-head-requires c).In-Count-covariates_of).requires.6
 
 pub slice_bounds-put_terms-end : goal.slice_bounds-put_terms-end
-slice_bounds-put_terms-end c = sym (picked_many (picked (firstly (passed c))))
+slice_bounds-put_terms-end c = sym (picked_many (picked (firstly (goal.at.slice_bounds-put_terms-end c).In-Count-covariates_of)))
 
 pub slice_bounds-put_terms-end-2 : goal.slice_bounds-put_terms-end-2
-slice_bounds-put_terms-end-2 c = sym (picked_many (picked_2 (passed c)))
+slice_bounds-put_terms-end-2 c = sym (picked_many (picked_2 (goal.at.slice_bounds-put_terms-end-2 c).In-Count-covariates_of))

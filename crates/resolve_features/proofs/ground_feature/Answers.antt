@@ -72,8 +72,8 @@ returns-in-Covariance c =
 feature-kept : (c : Joined-feature) → c.match-feature.feature ≡ c.args.feature
 feature-kept c =
     elim c.match-feature.branch [
-      in-Allometry+else-not-is_covariate w ↦ w.feature-is ∙ sym w.in-Allometry.is
-    | in_default w ↦ w.feature-is
+      | in-Allometry+else-not-is_covariate w ↦ w.feature-is ∙ sym w.in-Allometry.is
+      | in_default w ↦ w.feature-is
     ]
 
 abbrev Stays : Start → forms.Feature → Type 0
@@ -84,12 +84,12 @@ stays-whole : (c : Joined-feature) → Stays (goal.at.Joined-feature c).Start c.
 stays-whole c =
     let a = c.args in
     elim c.match-feature.branch [
-      in-Allometry+else-not-is_covariate w ↦
-        subst (Stays (goal.at.Joined-feature c).Start) (sym w.in-Allometry.is)
-        (allometry_whole a.text.now a.block.now a.lists.now a.lets.now a.n w.in-Allometry.covariate w.in-Allometry.reference
-        (sym w.if-not-is_covariate.false ∙ w.is_covariate.ensures))
-    | in_default w ↦
-        other-whole a.text.now a.block.now a.lists.now a.lets.now a.n a.feature (opened w.in_default.in_default-own.keys5) c.requires.7
+      | in-Allometry+else-not-is_covariate w ↦
+          subst (Stays (goal.at.Joined-feature c).Start) (sym w.in-Allometry.is)
+          (allometry_whole a.text.now a.block.now a.lists.now a.lets.now a.n w.in-Allometry.covariate w.in-Allometry.reference
+          (sym w.if-not-is_covariate.false ∙ w.is_covariate.ensures))
+      | in_default w ↦
+          other-whole a.text.now a.block.now a.lists.now a.lets.now a.n a.feature (opened w.in_default.in_default-own.keys5) c.requires.7
     ]
 
 pub put_whole-requires : goal.put_whole-requires

@@ -7,12 +7,12 @@ use Rattle.resolve_features.proofs.is_named.Goals as goal
 
 pub returns-in-Wildcard : goal.returns-in-Wildcard
 unfolding operand_in
-returns-in-Wildcard c = sym (ap (λ o. is_explicit (operand_in s o)) c.in-Wildcard.is)
+returns-in-Wildcard c s = sym (ap (λ o. is_explicit (operand_in s o)) c.in-Wildcard.is)
 
 pub returns-in-Symbol : goal.returns-in-Symbol
 unfolding operand_in
-returns-in-Symbol c = sym (ap (λ o. is_explicit (operand_in s o)) c.in-Symbol.is)
+returns-in-Symbol c s = sym (ap (λ o. is_explicit (operand_in s o)) c.in-Symbol.is)
 
 pub returns-in-Names : goal.returns-in-Names
 unfolding operand_in
-returns-in-Names c = sym (ap (λ o. is_explicit (operand_in s o)) c.in-Names.is)
+returns-in-Names c s = sym (ap (λ o. is_explicit (operand_in s o)) c.in-Names.is)

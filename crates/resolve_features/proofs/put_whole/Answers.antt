@@ -39,7 +39,7 @@ alone_parts :
     (c : In-Modes)
     → AloneAs c.args.feature (argument.Modes c.in-Modes.keyword c.in-Modes.family c.in-Modes.modes)
 alone_parts c =
-    subst (AloneAs c.args.feature) c.in-Modes.is c.Alone-of.ensures
+    subst (AloneAs c.args.feature) c.in-Modes.is c.alone_of.ensures
 
 alone-same :
     (c : In-Modes)
@@ -55,15 +55,15 @@ pub returns-in-Modes : goal.returns-in-Modes
 returns-in-Modes c =
     finished (further (going _ _ _) c.put_joint-next.ensures) (rw (alone-same (goal.at.returns-in-Modes c).In-Modes) c.put_alone.ensures)
 
-made : (c : After-whole_parts-parts) → WholeParts (apart (statement.Feature (joint_start c).args.feature)) c.whole_parts-parts.result
+made : (c : After-whole_parts-parts) → WholeParts (apart (statement.Feature c.args.feature)) c.whole_parts-parts.result
 made c =
     subst (λ (r : Parts). WholeParts r c.whole_parts-parts.result) c.parts_of.ensures c.whole_parts-parts.ensures
 
 parts_same :
     (c : After-whole_parts-parts)
-    → let s = joint_start c in
+    → let s = (goal.at.After-whole_parts-parts c).Start in
     whole_bytes s ≡ bytes_of s.args.text.now c.whole_parts-parts.result
-parts_same c = sym (ap (λ p. spell_all (taken_shapes p)) ((made c).mean (joint_start c).args.text.now))
+parts_same c = sym (ap (λ p. spell_all (taken_shapes p)) ((made c).mean c.args.text.now))
 
 pub put_parts-requires : goal.put_parts-requires
 put_parts-requires c =

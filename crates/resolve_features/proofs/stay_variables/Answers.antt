@@ -23,8 +23,11 @@ use Rattle.resolve_grounding.specs.Listed.{variable_bytes}
 use Rattle.resolve_grounding.proofs.Sizes.{whole-few, variables_short}
 use Rattle.resolve_features.specs.Stays.{VariablesAs}
 use Rattle.resolve_features.proofs.Variables.{picked_many, names-short, piece-small, piece-room}
-use Rattle.resolve_features.proofs.stay_variables.Goals.{After-parameters_of, After-read_layout-layout, Else-count-least, In-Count}
+use Rattle.resolve_features.proofs.stay_variables.Goals.{After-parameters_of, After-read_layout-layout, Else-count-least, In-Count, Start}
 use Rattle.resolve_features.proofs.stay_variables.Goals as goal
+
+abbrev start : After-parameters_of → Start
+start p = (goal.at.After-parameters_of p).Start
 
 -- what the operand answered, with the array that was lent
 module _ (p : After-parameters_of) where

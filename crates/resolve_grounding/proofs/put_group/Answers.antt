@@ -61,7 +61,7 @@ Left s =
     (group_statement (context s) s.args.parameter s.args.covariate (places s.args.packed) s.args.operator s.args.optional)))
 
 abbrev parameter-start : After-put_all-one → Start
-parameter-start c = c
+parameter-start c = (goal.at.After-put_all-one c).Start
 
 abbrev comma-start : After-put-comma → Start
 comma-start c = parameter-start (goal.at.After-put-comma c).After-put_all-one

@@ -48,7 +48,7 @@ unfolding resolved_as
 returns-in-Refused c =
     let a = c.args in
     let d = c.resolve_under.ensures in
-    let e = sym (ap resolved_as c.in-Refused.is) ∙ d.0 in record { written = refused-written a.asked a.block.now a.lists.now a.text.now (answer (goal.at.returns-in-Refused c).After-resolve_under) e c.Put-refused.ensures; leaves = (e, d.1) }
+    let e = sym (ap resolved_as c.in-Refused.is) ∙ d.0 in record { written = refused-written a.asked a.block.now a.lists.now a.text.now (answer (goal.at.returns-in-Refused c).After-resolve_under) e c.put_refused.ensures; leaves = (e, d.1) }
 
 pub returns-in-Lengths : goal.returns-in-Lengths
 unfolding resolved_as

@@ -142,8 +142,7 @@ returns-in-Missing c =
 
 pub loop-i-preserved : goal.loop-i-preserved
 loop-i-preserved c =
-    let t = turn (goal.at.loop-i-preserved c).After-place_of in
-    (
+    let t = turn (goal.at.loop-i-preserved c).After-place_of in (
       brings-nothing (entries (top (goal.at.loop-i-preserved c).After-place_of)) (each (top (goal.at.loop-i-preserved c).After-place_of)) t.loop-i.indexes t.loop-i.n t.loop-i.i t.loop-i.invariant.0
           (here (goal.at.loop-i-preserved c).After-place_of (looked_up (goal.at.loop-i-preserved c).After-place_of c.in-NoName.is)),
       c.next_name-here.ensures.behind,

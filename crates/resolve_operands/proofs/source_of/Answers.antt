@@ -54,14 +54,14 @@ word_looked c =
     let a = c.args in
     let w = c.match-operand.word.now in
     elim c.match-operand.branch [
-      in-Symbol v ↦
-        stands_same a.text.now a.layout c.look_up.result (names (goal.at.After-look_up c).Start) v.in-Symbol.is
-        (word_stands a.text.now a.lets.now a.n a.layout (star (goal.at.After-look_up c).Start) v.in-Symbol.name w c.look_up.result
-        (ap (λ x. x.now) v.word-is ∙ v.spelling-word.ensures) c.look_up.ensures.1)
-    | in-Wildcard+else-every v ↦
-        stands_same a.text.now a.layout c.look_up.result (names (goal.at.After-look_up c).Start) v.in-Wildcard.is
-        (star-stands a.text.now a.lets.now a.n a.layout a.star.now a.every w c.look_up.result v.if-every.false
-        (ap (λ x. x.now) v.word-is) c.look_up.ensures.1)
+      | in-Symbol v ↦
+          stands_same a.text.now a.layout c.look_up.result (names (goal.at.After-look_up c).Start) v.in-Symbol.is
+          (word_stands a.text.now a.lets.now a.n a.layout (star (goal.at.After-look_up c).Start) v.in-Symbol.name w c.look_up.result
+          (ap (λ x. x.now) v.word-is ∙ v.spelling-word.ensures) c.look_up.ensures.1)
+      | in-Wildcard+else-every v ↦
+          stands_same a.text.now a.layout c.look_up.result (names (goal.at.After-look_up c).Start) v.in-Wildcard.is
+          (star-stands a.text.now a.lets.now a.n a.layout a.star.now a.every w c.look_up.result v.if-every.false
+          (ap (λ x. x.now) v.word-is) c.look_up.ensures.1)
     ]
 
 pub look_up-requires : goal.look_up-requires

@@ -31,7 +31,7 @@ Given s =
     s.args.groups s.args.made.now
 
 abbrev start_of : After-put_groups-end → Start
-start_of p = p
+start_of p = (goal.at.After-put_groups-end p).Start
 
 pub overflow_add-tally : goal.overflow_add-tally
 overflow_add-tally c = let g = c.requires.3 in omega (arith, g.tallied.few, g.known.stand.few)
@@ -51,19 +51,19 @@ put_groups-end-requires c =
     let g = c.requires.3 in
     (c.requires.0, c.requires.1, c.requires.2, g.known, g.tallied.few, omega (arith, g.tallied.small))
 
-module _ (p : tie.After-put-groups) (g : Given (start_of p)) where
+module _ (p : After-put_groups-end) (g : Given (start_of p)) where
   few-statements : length (outcome (context_of (start_of p)) g.what).statements ≤ 256
-  few-statements = omega (arith, p.before.before.if1.false, statements-are g)
+  few-statements = omega (arith, p.if-tally-groups-gt256.false, statements-are g)
 
-  long : length (ground_text (outcome (context_of (start_of p)) g.what)) ≡ p.put-groups.result
-  long = text-long g p.put-groups.ensures
+  long : length (ground_text (outcome (context_of (start_of p)) g.what)) ≡ p.put_groups-end.result
+  long = text-long g p.put_groups-end.ensures
 
 pub returns-then-end-gt16384 : goal.returns-then-end-gt16384
 unfolding AttemptAs Roomy
 returns-then-end-gt16384 c = (
   (λ g.
       refused_answers c.refuse-then-end-gt16384.result 18 0
-      (long-grounded (context_of (start_of (goal.at.returns-then-end-gt16384 c).After-put_groups-end)) g.what (few-statements c g) (omega (arith, c.if-end-gt16384.true, long c g)))
+      (long-grounded (context_of (start_of (goal.at.returns-then-end-gt16384 c).After-put_groups-end)) g.what (few-statements (goal.at.returns-then-end-gt16384 c).After-put_groups-end g) (omega (arith, c.if-end-gt16384.true, long (goal.at.returns-then-end-gt16384 c).After-put_groups-end g)))
       c.refuse-then-end-gt16384.ensures),
   tt,
 )
@@ -83,14 +83,14 @@ note_count-remarks-requires c = (start_of (goal.at.note_count-remarks-requires c
 fine : (q : Else-end-gt16384) (g : Given (start_of (goal.at.Else-end-gt16384 q).After-put_groups-end))
     → grounded (context_of (start_of (goal.at.Else-end-gt16384 q).After-put_groups-end)) g.what ≡ accepted (outcome (context_of (start_of (goal.at.Else-end-gt16384 q).After-put_groups-end)) g.what)
 fine q g =
-    fine-grounded (context_of (start_of (goal.at.Else-end-gt16384 q).After-put_groups-end)) g.what (few-statements q g) (omega (arith, q.if-end-gt16384.false, long q g))
+    fine-grounded (context_of (start_of (goal.at.Else-end-gt16384 q).After-put_groups-end)) g.what (few-statements (goal.at.Else-end-gt16384 q).After-put_groups-end g) (omega (arith, q.if-end-gt16384.false, long (goal.at.Else-end-gt16384 q).After-put_groups-end g))
 
 pub returns-then-ground-end : goal.returns-then-ground-end
 unfolding AttemptAs Roomy
 returns-then-ground-end c = (
   (λ g.
       short-ground (outcome (context_of (start_of (goal.at.returns-then-ground-end c).After-put_groups-end)) g.what) (fine (goal.at.returns-then-ground-end c).Else-end-gt16384 g) c.refuse-then-ground-end.result c.refuse-then-ground-end.ensures
-      (omega (arith, c.if-ground-end.true, long c g))),
+      (omega (arith, c.if-ground-end.true, long (goal.at.returns-then-ground-end c).After-put_groups-end g))),
   tt,
 )
 
@@ -114,7 +114,7 @@ returns-then-notes-remarks c = (
 
 pub put_notes-requires : goal.put_notes-requires
 put_notes-requires c =
-    let s = start_of (written_at c) in
+    let s = start_of (goal.at.put_notes-requires c).After-put_groups-end in
     (omega (arith, c.if-notes-remarks.false, c.note_count-remarks.ensures), s.requires.3.tallied.held)
 
 pub returns : goal.returns
@@ -124,17 +124,17 @@ returns c =
       (λ g.
           let x = outcome (context_of s) g.what in
           let whole = text-written g c.put_groups-end.ensures in
-          let held : length (ground_text x) ≤ length g.before = omega (arith, c.if-end-gt16384.false, c.if-made-end.false, long c g, same-room whole) in
+          let held : length (ground_text x) ≤ length g.before = omega (arith, c.if-end-gt16384.false, c.if-made-end.false, long (goal.at.returns c).After-put_groups-end g, same-room whole) in
           let k = effects-many g in
           let m = notes-many g c.additive-additive.result c.additive-additive.ensures in
           let o = c.note_count-remarks.ensures in
           room_answers x _ (fine (goal.at.returns c).Else-end-gt16384 g)
-          (ap accepted (lengths_same (sym (long c g)) (sym k) (o ∙ sym m)))
-          (omega (arith, c.if-ground-end.false, long c g))
+          (ap accepted (lengths_same (sym (long (goal.at.returns c).After-put_groups-end g)) (sym k) (o ∙ sym m)))
+          (omega (arith, c.if-ground-end.false, long (goal.at.returns c).After-put_groups-end g))
           (omega (arith, k, c.if-room-count.false))
           (omega (arith, m, o, c.if-notes-remarks.false))
           (c.put_text.ensures
-          ∙ ap₂ (λ (l : List ℕ) (i : ℕ). l ++ drop i s.args.ground.now) (front_stands whole held) (sym (long c g)))
+          ∙ ap₂ (λ (l : List ℕ) (i : ℕ). l ++ drop i s.args.ground.now) (front_stands whole held) (sym (long (goal.at.returns c).After-put_groups-end g)))
           (ap (λ (i : ℕ). map effect_of (take i s.args.work.now)) k ∙ g.effects)
           (c.put_notes.ensures
           ∙ ap₂ (λ (l : List (List ℕ)) (i : ℕ). l ++ drop i s.args.notes.now)

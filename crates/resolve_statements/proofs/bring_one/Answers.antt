@@ -17,22 +17,23 @@ use Rattle.resolve_statements.specs.declared.Step.TheVariants as steps
 use Rattle.resolve_statements.specs.Tallies.{BringAs, PrintsAs, NoneStays}
 use Rattle.resolve_statements.proofs.Stepping.{nothing-added, prints-known, prints-none}
 use Rattle.resolve_statements.proofs.Fitting.{covariate-fits, feature-fits, feature-short, not-covariate}
+use Rattle.resolve_statements.proofs.bring_one.Goals.{Start}
 use Rattle.resolve_statements.proofs.bring_one.Goals as goal
 
 -- the statement fits, whichever it is
-module _ (s : tie.Start) {st : forms.Statement} (e : s.args.statement ≡ st) where
+module _ (s : Start) {st : forms.Statement} (e : s.args.statement ≡ st) where
   fits : Fit s.args.text.now st
   fits = subst (Fit s.args.text.now) e s.requires.5
 
 pub bring_terms-requires : goal.bring_terms-requires
 bring_terms-requires c =
     let y = covariate-fits c.args.text.now c.in-Covariate.optional c.in-Covariate.parameters c.in-Covariate.covariates c.in-Covariate.effects c.in-Covariate.op
-    (fits c (c.in-Feature.is ∙ ap statementForm.Feature c.in-Covariate.is)) in
+    (fits (goal.at.bring_terms-requires c).Start (c.in-Feature.is ∙ ap statementForm.Feature c.in-Covariate.is)) in
     (c.requires.0, c.requires.3, c.requires.4, y.parameters, y.covariates, y.small, c.requires.6, c.requires.7, c.requires.10)
 
 pub bring_other-requires : goal.bring_other-requires
 bring_other-requires c =
-    let y = fits c c.in-Feature.is in (
+    let y = fits (goal.at.bring_other-requires c).Start c.in-Feature.is in (
       c.requires.0,
       c.requires.1,
       c.requires.2,
@@ -63,9 +64,12 @@ returns-in-Let c = record { bring_as = nothing-added c.args.index c.args.tally c
 pub returns-in-Covariate : goal.returns-in-Covariate
 unfolding bring statement_in feature_in
 returns-in-Covariate c =
-    rw (c.in-Feature.is, c.in-Covariate.is) (c.bring_terms.ensures.bring_as, of_terms _ _ _ _ _ _ _ _ _ c.bring_terms.ensures.bring_as c.bring_terms.ensures.none_stays)
+    rw (c.in-Feature.is, c.in-Covariate.is) (record {
+      bring_as = c.bring_terms.ensures.bring_as;
+      prints_as = of_terms _ _ _ _ _ _ _ _ _ c.bring_terms.ensures.bring_as c.bring_terms.ensures.none_stays;
+    })
 
 pub returns-in_default : goal.returns-in_default
 unfolding bring statement_in
 returns-in_default c =
-    rw c.in-Feature.is (c.bring_other.ensures.by_index c.args.terms.now, c.bring_other.ensures.prints_as)
+    rw c.in-Feature.is (record { bring_as = c.bring_other.ensures.by_index c.args.terms.now; prints_as = c.bring_other.ensures.prints_as })

@@ -23,7 +23,7 @@ use Rattle.resolve_taking.proofs.Reading.{Reading, none_read, refused-read, one_
 use Rattle.resolve_taking.proofs.Gathering.{still_quiet, started, all_gathered, feature-passed, key-again, one-gathered, let_stands}
 use Rattle.resolve_taking.proofs.Bringing.{none-brought, one-brought, one-refused, all-brought}
 use Rattle.resolve_taking.proofs.Refusing.{text-refused, context-refused, let-refused, statement-refused}
-use Rattle.resolve_taking.proofs.take_text.Goals.{After-bring_one, After-later-1, After-loop-i, After-statement_at-again, After-statement_at-again-in-loop-k, At-loop-i, Else-has_let, In-End, In-Let, In-Refused-bring_one, In-Statement, In-loop-i, In-loop-k, then-count-lt-FEW, else-count-lt-FEW}
+use Rattle.resolve_taking.proofs.take_text.Goals.{After-bring_one, After-later-1, After-loop-i, After-statement_at-again, After-statement_at-again-in-loop-k, At-loop-i, At-loop-k, Else-has_let, In-End, In-Let, In-Refused-bring_one, In-Statement, In-loop-i, In-loop-k, else-count-lt-FEW, then-count-lt-FEW}
 use Rattle.resolve_taking.proofs.take_text.Goals as goal
 
 -- Reading.
@@ -107,7 +107,7 @@ returns-in_default c =
     context-refused c.args.limit _ _ _ (whole (goal.at.returns-in_default c).In-End).read (checked_wrong _ _ (sym c.check.ensures ∙ c.in_default.is))
 
 stands : (m : At-loop-i)
-    → let a = (start (loop_at m)).args in
+    → let a = m.args in
     Stands a.block.now a.lists.now m.in-Context.layout
 stands m =
     checked_stands _ _ _ (sym m.check.ensures ∙ m.in-Context.is)
@@ -126,28 +126,27 @@ bounds-forms-slot c = omega (arith, c.slot.ensures.0)
 
 -- the index of a turn lies among the statements
 within : (t : In-loop-i)
-    → let l = loop_at t in
-    let a = l.args in
-    (t.loop-i.i < l.loop.count) × (t.loop-i.i < length (text_statements a.limit a.text.now)) × (t.loop-i.i < 256)
+    → let a = t.args in
+    (t.loop-i.i < t.loop-statement.count) × (t.loop-i.i < length (text_statements a.limit a.text.now)) × (t.loop-i.i < 256)
 within t =
     let w = whole (goal.at.In-loop-i t).In-End in
     (omega (arith, t.loop-i-test.true, w.bound), omega (arith, t.loop-i-test.true, w.bound, w.many), omega (arith, t.loop-i-test.true, w.bound, w.most))
 
 pub statement_at-again-requires : goal.statement_at-again-requires
 statement_at-again-requires c =
-    let p = (start (loop_at c)).requires in
+    let p = c.requires in
     (p.0, p.1, p.2, λ q. ahead-few c.loop-i.invariant.1 (within (goal.at.statement_at-again-requires c).In-loop-i).1 q)
 
 -- the statement of a turn
 stands_here : (x : After-statement_at-again)
-    → let a = (start (loop_at x)).args in
+    → let a = x.args in
     Here a.limit a.text.now (text_statements a.limit a.text.now) x.loop-i.i x.statement_at-again.result
 stands_here x =
     here (whole (goal.at.After-statement_at-again x).In-End) x.loop-i.invariant.1 (within (goal.at.After-statement_at-again x).In-loop-i).0 _ x.slot.ensures.1 x.statement_at-again.ensures
 
 -- a LET's name and values
 let_here : (x : In-Let)
-    → let s = (start (loop_at x)).args.text.now in
+    → let s = x.args.text.now in
     InText s x.in-Let.name × Listed s x.in-Let.values
 let_here x =
     let_stands _ _ x.in-Let.name x.in-Let.values
@@ -163,7 +162,7 @@ shape_of-lets-then-has_let c = c.loop-i.invariant.2
 pub returns-then-has_let : goal.returns-then-has_let
 unfolding TakenAs
 returns-then-has_let c =
-    let-refused (start (loop_at c)).args.limit _ _ _ (whole (goal.at.returns-then-has_let c).In-End).read (stands (goal.at.returns-then-has_let c).At-loop-i).is
+    let-refused c.args.limit _ _ _ (whole (goal.at.returns-then-has_let c).In-End).read (stands (goal.at.returns-then-has_let c).At-loop-i).is
     (key-again c.loop-i.invariant.0 _ (stands_here (goal.at.returns-then-has_let c).After-statement_at-again).first c.in-Let.name c.in-Let.values c.in-Let.is
     c.has_let.ensures c.if-has_let.true)
 
@@ -226,13 +225,13 @@ loop-i-preserved c = (
 
 -- all LETs stand in the run
 collected : (b : After-loop-i)
-    → let a = (start (loop_at b)).args in
+    → let a = b.args in
     CollectedAll a.text.now (text_statements a.limit a.text.now) b.loop-i.lets b.loop-i.n
 collected b =
-    let a = (start (loop_at b)).args in
+    let a = b.args in
     let w = whole (goal.at.After-loop-i b).In-End in
     all_gathered b.loop-i.invariant.0
-    (still_quiet (text_statements a.limit a.text.now) (loop_at b).loop.end b.loop-i.i (omega (arith, b.loop-i-test.false)) w.quiet)
+    (still_quiet (text_statements a.limit a.text.now) b.loop-statement.end b.loop-i.i (omega (arith, b.loop-i-test.false)) w.quiet)
 
 -- What they bring.
 pub loop-k-init : goal.loop-k-init
@@ -245,20 +244,19 @@ pub bounds-forms-slot-in-loop-k : goal.bounds-forms-slot-in-loop-k
 bounds-forms-slot-in-loop-k c = omega (arith, c.slot-in-loop-k.ensures.0)
 
 within3 : (t : In-loop-k)
-    → let l = loop_at t in
-    let a = l.args in
-    (t.loop-k.k < l.loop.count) × (t.loop-k.k < length (text_statements a.limit a.text.now)) × (t.loop-k.k < 256)
+    → let a = t.args in
+    (t.loop-k.k < t.loop-statement.count) × (t.loop-k.k < length (text_statements a.limit a.text.now)) × (t.loop-k.k < 256)
 within3 t =
     let w = whole (goal.at.In-loop-k t).In-End in
     (t.loop-k-test.true, omega (arith, t.loop-k-test.true, w.many), omega (arith, t.loop-k-test.true, w.most))
 
 pub statement_at-again-requires-in-loop-k : goal.statement_at-again-requires-in-loop-k
 statement_at-again-requires-in-loop-k c =
-    let p = (start (loop_at c)).requires in
+    let p = c.requires in
     (p.0, p.1, p.2, λ x. ahead-few c.loop-k.invariant.1 (within3 (goal.at.statement_at-again-requires-in-loop-k c).In-loop-k).1 x)
 
 taken_here : (x : After-statement_at-again-in-loop-k)
-    → let a = (start (loop_at x)).args in
+    → let a = x.args in
     Here a.limit a.text.now (text_statements a.limit a.text.now) x.loop-k.k x.statement_at-again-in-loop-k.result
 taken_here x =
     here (whole (goal.at.After-statement_at-again-in-loop-k x).In-End) x.loop-k.invariant.1 (within3 (goal.at.After-statement_at-again-in-loop-k x).In-loop-k).0 _ x.slot-in-loop-k.ensures.1 x.statement_at-again-in-loop-k.ensures
@@ -281,61 +279,45 @@ bring_one-requires c =
       omega (arith, g.noted, h),
     )
 
-abbrev turn_at : After-bring_one → In-loop-k
-turn_at b = b
-
-abbrev next_at : After-later-1 → After-bring_one
-next_at c = c
-
 pub overflow_add-k : goal.overflow_add-k
-overflow_add-k c = omega (arith, (within3 (turn_at (next_at (goal.at.overflow_add-k c).After-later-1))).2)
+overflow_add-k c = omega (arith, (within3 (goal.at.overflow_add-k c).In-loop-k).2)
 
 pub loop-k-smaller : goal.loop-k-smaller
-loop-k-smaller c = omega (arith, (turn_at (next_at (goal.at.loop-k-smaller c).After-later-1)).loop3-test.taken)
+loop-k-smaller c = omega (arith, c.loop-k-test.true)
 
 pub loop-k-preserved : goal.loop-k-preserved
 unfolding BringAs PrintsAs
 loop-k-preserved c =
-    let b = next_at (goal.at.loop-k-preserved c).After-later-1 in
-    let a = b in
-    let h = subst (BringAs _ _ _ _ _ _ _) c.in-Next.is b.bring-one.ensures.0 in
-    let w = subst (PrintsAs _ _ _ _) c.in-Next.is b.bring-one.ensures.1 in
-    let i = (turn_at b).before.loop3.inv in (
-      one-brought i.0 _ (taken_here a).first h.brought h.adds (w h.what h.brought),
-      (taken_here a).ahead,
+    let x = taken_here (goal.at.loop-k-preserved c).After-statement_at-again-in-loop-k in
+    let h = subst (BringAs _ _ _ _ _ _ _) c.in-Next.is c.bring_one.ensures.bring_as in
+    let w = subst (PrintsAs _ _ _ _) c.in-Next.is c.bring_one.ensures.prints_as in
+    let i = c.loop-k.invariant in (
+      one-brought i.0 _ x.first h.brought h.adds (w h.what h.brought),
+      x.ahead,
       same-room (w h.what h.brought) ∙ i.2,
       same-room h.adds.terms ∙ i.3,
       same-room h.adds.dropped ∙ i.4,
-      omega (arith, (turn_at b).loop3-test.taken),
+      omega (arith, c.loop-k-test.true),
     )
 
-abbrev refused_at : In-Refused-bring_one → After-bring_one
-refused_at c = c
-
-abbrev loop3_at : In-Refused-bring_one → At-loop-k
-loop3_at c = (turn_at (refused_at c)).before
-
 pub shape_of-lets-in-Refused-bring_one : goal.shape_of-lets-in-Refused-bring_one
-shape_of-lets-in-Refused-bring_one c = search (rules, (lets_at (loop3_at (goal.at.shape_of-lets-in-Refused-bring_one c).In-Refused-bring_one)).loop2.inv.2)
+shape_of-lets-in-Refused-bring_one c = c.loop-i.invariant.2
 
 pub shape_of-terms-in-Refused-bring_one : goal.shape_of-terms-in-Refused-bring_one
-shape_of-terms-in-Refused-bring_one c = search (rules, (loop3_at (goal.at.shape_of-terms-in-Refused-bring_one c).In-Refused-bring_one).loop3.invariant.3)
+shape_of-terms-in-Refused-bring_one c = c.loop-k.invariant.3
 
 pub shape_of-dropped-in-Refused-bring_one : goal.shape_of-dropped-in-Refused-bring_one
-shape_of-dropped-in-Refused-bring_one c = search (rules, (loop3_at (goal.at.shape_of-dropped-in-Refused-bring_one c).In-Refused-bring_one).loop3.invariant.4)
+shape_of-dropped-in-Refused-bring_one c = c.loop-k.invariant.4
 
 pub shape_of-out-in-Refused-bring_one : goal.shape_of-out-in-Refused-bring_one
-shape_of-out-in-Refused-bring_one c = search (rules, (loop3_at (goal.at.shape_of-out-in-Refused-bring_one c).In-Refused-bring_one).loop3.invariant.2)
+shape_of-out-in-Refused-bring_one c = c.loop-k.invariant.2
 
 pub returns-in-Refused-bring_one : goal.returns-in-Refused-bring_one
 unfolding TakenAs BringAs
 returns-in-Refused-bring_one c =
-    let b = refused_at (goal.at.returns-in-Refused-bring_one c).In-Refused-bring_one in
-    let q = loop3_at (goal.at.returns-in-Refused-bring_one c).In-Refused-bring_one in
-    let m = q in
-    let h = subst (BringAs _ _ _ _ _ _ _) c.in-Refused-bring_one.is b.bring-one.ensures.0 in
-    statement-refused (start (loop_at m)).args.limit _ _ _ (whole m).read (stands m).is (collected q.before)
-    (one-refused q.loop3.inv.0 _ (taken_here b).first c.in-Refused-bring_one.number h)
+    let h = subst (BringAs _ _ _ _ _ _ _) c.in-Refused-bring_one.is c.bring_one.ensures.bring_as in
+    statement-refused c.args.limit _ _ _ (whole (goal.at.returns-in-Refused-bring_one c).In-End).read (stands (goal.at.returns-in-Refused-bring_one c).At-loop-i).is (collected (goal.at.returns-in-Refused-bring_one c).After-loop-i)
+    (one-refused c.loop-k.invariant.0 _ (taken_here (goal.at.returns-in-Refused-bring_one c).After-statement_at-again-in-loop-k).first c.in-Refused-bring_one.number h)
 
 pub shape_of-lets : goal.shape_of-lets
 shape_of-lets c = c.loop-i.invariant.2
