@@ -1,6 +1,6 @@
 -- What the exported calls give and the place of what they refuse are below 2^32, for every text, index and room.
 -- Assumes nothing.
-use Prim.Native.Nat.{ℕ, ◌≤◌, ◌<◌}
+use Prim.Native.Nat.{ℕ, ◌<◌}
 use native.Mathlib.Omega.{arith}
 use mathlib.Core.Path.{◌≡◌, refl}
 use mathlib.Core.Bool.{Bool, true, false, cond}
@@ -13,7 +13,7 @@ use Rattle.reading.specs.Answer.{Answer, accepted, refused}
 use Rattle.reading.specs.Read.{read_text}
 use Rattle.reading_laws.proofs.Joining.{accepted-short}
 use Rattle.canonical.specs.Print.{length_of, printed, print_text, fitting}
-use Rattle.canonical.specs.Numbers.{numbers_of, all_numbered, all_numbering}
+use Rattle.canonical.specs.Numbers.{all_numbered, all_numbering}
 use Rattle.canonical_laws.proofs.Shorter.{not_longer}
 use Rattle.canonical_laws.proofs.Rereading.{few-statements}
 use Rattle.canonical_laws.proofs.Numbers.{few-numbers}

@@ -12,7 +12,6 @@ use lib.Dec.{ltb}
 use lib.ListN.{length, get_elem?}
 use Rattle.reading.specs.Statement.{Statement}
 use Rattle.reading.specs.Answer.{Answer, accepted, refused}
-use Rattle.reading.specs.Read.{read_text}
 use Rattle.reading_laws.specs.WellFormed.{is_fault, Gives, given, nothing}
 use Rattle.reading_laws.proofs.Giving.{fault_given}
 use Rattle.reading_laws.proofs.Faults.{Anything, either_gives, text_gives, refused_fault, fault_least, fault_most}
@@ -31,7 +30,7 @@ use Rattle.profiling.specs.Refused.{RefusedBy, by_reading, by_profile}
 use Rattle.profiling.proofs.Places.{refused_by}
 use Rattle.words.specs.Word.{word, Below, answer_in}
 use Rattle.read_profile.specs.Answers.{yes_as_zero}
-use Rattle.dumachik.specs.Told.{lengths_in, resolved_in}
+use Rattle.dumachik.specs.Told.{resolved_in}
 use Rattle.words.proofs.Telling.{place-told, word-told}
 use Rattle.dumachik.proofs.Below.{count-below, print_below, statement-below, statements-below, profile_below}
 

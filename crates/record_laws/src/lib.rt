@@ -34,7 +34,7 @@ pub fn store<U: Unpacks>(records: &mut [U::Record], packed: &[u32], n: usize)
 
 // A slice that is lent on for a call comes back with what the call left in it.
 pub fn lend<R, X, F: FnOnce(&mut [R]) -> X>(records: &mut [R], f: F) -> X
-    requires { F.IsAlwaysCallable f }
+    requires { (s : _) → s.now ≡ records.old → F.pre f s }
     ensures { FnOnceReturnsAtMut F.FnOnce f records.old result records.new }
 {
     f(records)
@@ -42,7 +42,7 @@ pub fn lend<R, X, F: FnOnce(&mut [R]) -> X>(records: &mut [R], f: F) -> X
 
 // A slice that is lent on for a call that only reads it comes back as it was.
 pub fn share<R, X, F: FnOnce(&[R]) -> X>(records: &mut [R], f: F) -> X
-    requires { F.IsAlwaysCallable f }
+    requires { (s : _) → s.now ≡ records.old → F.pre f s }
     ensures told { FnOnceReturnsAt F.FnOnce f records.old result }
     ensures kept { records.new ≡ records.old }
 {
@@ -135,4 +135,26 @@ pub fn call<C: PackedCall>(
     C::store(records, work, n);
     C::finish(work);
     word
+}
+
+#[cfg(test)]
+mod tests {
+    use super::*;
+
+    #[derive(Clone, Copy)]
+    struct Pair {
+        left: u8,
+        right: u8,
+    }
+
+    // One record is written where the slice is lent, and read where it is shared.
+    #[test]
+    fn a_lent_slice_comes_back(rt: HostRuntime) {
+        let mut pairs = [Pair { left: 1, right: 2 }; 3];
+        lend(&mut pairs, |s| s[1] = Pair { left: 7, right: 9 });
+        let (left, right) = share(&mut pairs, |s| (s[1].left, s[1].right));
+        assert_eq!(rt; left, 7);
+        assert_eq!(rt; right, 9);
+        assert_eq!(rt; pairs[0].left, 1);
+    }
 }

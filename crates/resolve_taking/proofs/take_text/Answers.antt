@@ -71,13 +71,13 @@ pub loop-statement-preserved : goal.loop-statement-preserved
 loop-statement-preserved c =
     let h = forward (goal.at.loop-statement-preserved c).In-Statement in
     elim c.if-count-lt-FEW.branch [
-      then-count-lt-FEW w ↦
-        same_reading w.forms-is w.later-is
-        (w.start-is ∙ w.lets_start-start.ensures ∙ ap (start_after c.loop-statement.count c.loop-statement.start) c.lets_end-end.ensures) c.lets_end-end.ensures
-        (one_kept c.loop-statement.invariant c.in-Statement.statement c.in-Statement.after.at (stands-next (goal.at.loop-statement-preserved c).In-Statement) h.0 h.2 w.if-count-lt-FEW.true)
-    | else-count-lt-FEW w ↦
-        same_reading w.forms-is w.later-is w.start-is c.lets_end-end.ensures
-        (one-passed c.loop-statement.invariant c.in-Statement.statement c.in-Statement.after.at (stands-next (goal.at.loop-statement-preserved c).In-Statement) h.0 h.2 w.if-count-lt-FEW.false)
+      | then-count-lt-FEW w ↦
+          same_reading w.forms-is w.later-is
+          (w.start-is ∙ w.lets_start-start.ensures ∙ ap (start_after c.loop-statement.count c.loop-statement.start) c.lets_end-end.ensures) c.lets_end-end.ensures
+          (one_kept c.loop-statement.invariant c.in-Statement.statement c.in-Statement.after.at (stands-next (goal.at.loop-statement-preserved c).In-Statement) h.0 h.2 w.if-count-lt-FEW.true)
+      | else-count-lt-FEW w ↦
+          same_reading w.forms-is w.later-is w.start-is c.lets_end-end.ensures
+          (one-passed c.loop-statement.invariant c.in-Statement.statement c.in-Statement.after.at (stands-next (goal.at.loop-statement-preserved c).In-Statement) h.0 h.2 w.if-count-lt-FEW.false)
     ]
 
 pub earliest-refusal-requires : goal.earliest-refusal-requires
@@ -289,8 +289,8 @@ pub loop-k-preserved : goal.loop-k-preserved
 unfolding BringAs PrintsAs
 loop-k-preserved c =
     let x = taken_here (goal.at.loop-k-preserved c).After-statement_at-again-in-loop-k in
-    let h = subst (BringAs _ _ _ _ _ _ _) c.in-Next.is c.bring_one.ensures.bring_as in
-    let w = subst (PrintsAs _ _ _ _) c.in-Next.is c.bring_one.ensures.prints_as in
+    let h = subst (BringAs _ _ c.loop-k.tally c.loop-k.terms c.loop-k.dropped c.bring_one.new.terms c.bring_one.new.dropped) c.in-Next.is c.bring_one.ensures.bring_as in
+    let w = subst (PrintsAs _ c.loop-k.tally c.loop-k.out c.bring_one.new.out) c.in-Next.is c.bring_one.ensures.prints_as in
     let i = c.loop-k.invariant in (
       one-brought i.0 _ x.first h.brought h.adds (w h.what h.brought),
       x.ahead,
@@ -304,13 +304,13 @@ pub shape_of-lets-in-Refused-bring_one : goal.shape_of-lets-in-Refused-bring_one
 shape_of-lets-in-Refused-bring_one c = c.loop-i.invariant.2
 
 pub shape_of-terms-in-Refused-bring_one : goal.shape_of-terms-in-Refused-bring_one
-shape_of-terms-in-Refused-bring_one c = c.loop-k.invariant.3
+shape_of-terms-in-Refused-bring_one c = search (rules, c.loop-k.invariant.3)
 
 pub shape_of-dropped-in-Refused-bring_one : goal.shape_of-dropped-in-Refused-bring_one
-shape_of-dropped-in-Refused-bring_one c = c.loop-k.invariant.4
+shape_of-dropped-in-Refused-bring_one c = search (rules, c.loop-k.invariant.4)
 
 pub shape_of-out-in-Refused-bring_one : goal.shape_of-out-in-Refused-bring_one
-shape_of-out-in-Refused-bring_one c = c.loop-k.invariant.2
+shape_of-out-in-Refused-bring_one c = search (rules, c.loop-k.invariant.2)
 
 pub returns-in-Refused-bring_one : goal.returns-in-Refused-bring_one
 unfolding TakenAs BringAs
