@@ -25,13 +25,13 @@ take_text-requires c =
 pub returns-in-Refused : goal.returns-in-Refused
 unfolding TakenAs resolved_as
 returns-in-Refused c =
-    refused_answers _ _ _ (subst (TakenAs _ _ _ _ _ _ _ _ _ _ _) c.in-Refused.is c.take_text.ensures) refl
+    refused_answers _ _ _ (rw c.in-Refused.is at c.take_text.ensures) refl
 
 -- there is room for all LETs
 pub returns-in-Full : goal.returns-in-Full
 unfolding TakenAs
 returns-in-Full c =
-    let full = subst (TakenAs _ _ _ _ _ _ _ _ _ _ _) c.in-Full.is c.take_text.ensures in
+    let full = rw c.in-Full.is at c.take_text.ensures in
     absurd (omega (arith, full, c.no_lets-lets.ensures))
 
 -- what was taken
@@ -39,11 +39,11 @@ unfoldable there :
     (t : In-Tally)
     → let a = t.args in
     StaysWritten (handed_context a.block.now a.lists.now) t.in-Tally.tally
-    t.take_text.last.1.1.1.1.1.1.1.1.1.0 t.take_text.last.1.1.1.1.1.1.1.1.0
-    t.take_text.last.1.1.1.1.1.1.1.1.1.1.0
+    t.take_text.new.dropped t.take_text.new.terms
+    t.take_text.new.out
 unfolding TakenAs
 there t =
-    let h = subst (TakenAs _ _ _ _ _ _ _ _ _ _ _) t.in-Tally.is t.take_text.ensures in
+    let h = rw t.in-Tally.is at t.take_text.ensures in
     text-there h refl (omega (arith, t.no_bench-bench.ensures))
 
 -- the text resolves to what that comes to
@@ -54,28 +54,28 @@ resolved_to :
     ≡ merge_and_ground (handed_context a.block.now a.lists.now) (there t).there.what
 unfolding there TakenAs
 resolved_to t =
-    let h = subst (TakenAs _ _ _ _ _ _ _ _ _ _ _) t.in-Tally.is t.take_text.ensures in
+    let h = rw t.in-Tally.is at t.take_text.ensures in
     text_resolved h refl (omega (arith, t.no_bench-bench.ensures))
 
 -- what is made is as long as it was
 room :
     (t : In-Tally)
-    → length t.take_text.last.1.1.1.1.1.1.1.1.1.1.0 ≡ length t.no_text-made.result
+    → length t.take_text.new.out ≡ length t.no_text-made.result
 unfolding TakenAs
 room t =
-    same-room (subst (TakenAs _ _ _ _ _ _ _ _ _ _ _) t.in-Tally.is t.take_text.ensures).text
+    same-room (rw t.in-Tally.is at t.take_text.ensures).text
 
 pub read_layout-requires : goal.read_layout-requires
 unfolding TakenAs
 read_layout-requires c =
     let a = c.args in
-    let h = subst (TakenAs _ _ _ _ _ _ _ _ _ _ _) c.in-Tally.is c.take_text.ensures in
+    let h = rw c.in-Tally.is at c.take_text.ensures in
     handed-heads_fit a.block.now a.lists.now h.handed
 
 pub settle-requires : goal.settle-requires
 unfolding TakenAs
 settle-requires c =
-    let h = subst (TakenAs _ _ _ _ _ _ _ _ _ _ _) c.in-Tally.is c.take_text.ensures in (
+    let h = rw c.in-Tally.is at c.take_text.ensures in (
       c.requires.1,
       c.requires.2,
       record { is = h.handed; there = c.read_layout.ensures },

@@ -23,4 +23,4 @@ returns c =
     let a = c.args in
     let h =
     long-call a.limit a.block.now a.lists.now a.text.now (rooms a.ground.now a.room a.notes.now) a.work.now
-    c.if-work-lt-WORKING.false in record { result_value = answers_told h c.resolve_in.ensures; packed = answers_packed h c.resolve_in.ensures c.if-work-lt-WORKING.false (same-length_3 c) }
+    c.if-work-lt-WORKING.false in record { result_value = answers_told h c.resolve_in.ensures; packed = answers_packed h c.resolve_in.ensures c.if-work-lt-WORKING.false (search rules) }

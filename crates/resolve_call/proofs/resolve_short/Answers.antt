@@ -17,7 +17,7 @@ take_text-requires c = let p = c.requires in (p.0, p.1, p.2, p.3)
 pub returns-in-Refused : goal.returns-in-Refused
 unfolding AttemptAs TakenAs resolved_as
 returns-in-Refused c =
-    refused_answers _ _ _ (subst (TakenAs _ _ _ _ _ _ _ _ _ _ _) c.in-Refused.is c.take_text.ensures) refl
+    refused_answers _ _ _ (rw c.in-Refused.is at c.take_text.ensures) refl
 
 pub returns-in-Full : goal.returns-in-Full
 unfolding AttemptAs
@@ -32,13 +32,13 @@ pub read_layout-requires : goal.read_layout-requires
 unfolding TakenAs
 read_layout-requires c =
     let a = c.args in
-    let h = subst (TakenAs _ _ _ _ _ _ _ _ _ _ _) c.in-Tally.is c.take_text.ensures in
+    let h = rw c.in-Tally.is at c.take_text.ensures in
     handed-heads_fit a.block.now a.lists.now h.handed
 
 pub settle_few-requires : goal.settle_few-requires
 unfolding TakenAs
 settle_few-requires c =
-    let h = subst (TakenAs _ _ _ _ _ _ _ _ _ _ _) c.in-Tally.is c.take_text.ensures in (
+    let h = rw c.in-Tally.is at c.take_text.ensures in (
       c.requires.1,
       c.requires.2,
       record { is = h.handed; there = c.read_layout.ensures },
@@ -50,11 +50,11 @@ settle_few-requires c =
 -- the working buffer is as long as it was
 pub shape_of-work : goal.shape_of-work
 shape_of-work c =
-    omega (arith, c.work-1.given, c.work-2-1.given)
+    omega arith
 
 pub returns : goal.returns
 unfolding TakenAs
 returns c =
-    let h = subst (TakenAs _ _ _ _ _ _ _ _ _ _ _) c.in-Tally.is c.take_text.ensures in
+    let h = rw c.in-Tally.is at c.take_text.ensures in
     same-few _ _ _ _ _ _ _ _ c.settle_few.result (text_resolved h refl c.requires.4)
     (c.settle_few.ensures.0 (text-there h refl c.requires.4))

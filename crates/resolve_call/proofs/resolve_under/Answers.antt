@@ -40,9 +40,9 @@ put_effects-requires c =
 pub returns : goal.returns
 returns c =
     let d = c.resolve_packed-resolved.ensures in
-    let n = d.1 in
+    let n = d.packed in
     let a = (start (goal.at.returns c).After-effect_count-count).args in (
-      d.0,
+      d.result_value,
       (
         n.text,
         (
