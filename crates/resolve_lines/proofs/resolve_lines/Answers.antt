@@ -26,7 +26,7 @@ left :
     → let a = k.args in
     Left a.limit a.block.now a.lists.now a.text.now a.ground.now a.effects.now a.notes.now
     (lent a.ground.now a.effects.now a.notes.now) (length a.work.now) (sizes k)
-    k.resolve_under.last.1.1.1.0 k.resolve_under.last.1.1.1.1.0 k.resolve_under.last.1.1.1.1.1.0
+    k.resolve_under.new.ground k.resolve_under.new.effects k.resolve_under.new.notes
     (answer (goal.at.In-Lengths k).After-resolve_under)
 unfolding resolved_as
 left k =
