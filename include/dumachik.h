@@ -1,12 +1,12 @@
-/* Dumachik's calls: MFL texts counted, printed, given by value, held to the PK-only profile and resolved. `rt staticlib dumachik` proves them and
- * writes target/staticlib/libdumachik.a, for x86-64. Of other libraries it needs memcpy and memset alone.
+/* Dumachik's calls: MFL texts counted, printed, given by value, held to the PK-only profile and resolved. `rt lib` in crates/dumachik proves
+ * them and writes crates/dumachik/out/libdumachik.a, for x86-64. Of other libraries it needs memcpy and memset alone.
  *
  * No call allocates, keeps state or copies the text, and only mfl_resolve takes a working buffer. Any bytes may be given: a text need not be
  * UTF-8, and bytes of 128 and more may stand only in a comment. No output may overlap another or an input. Where a length is 0 its pointer is
  * not read, but must not be null.
  *
  * Limits: 16,384 bytes of text, 256 statements, 64 entries of an array. The stack that a call takes at most, whatever it is given
- * (docs/BENCHMARKS.md): mfl_resolve 58,280 bytes, mfl_statements 43,296, mfl_profile 43,120, mfl_print 24,240, the others under 4 KiB.
+ * (docs/BENCHMARKS.md): mfl_statements 125,296 bytes, mfl_profile 104,800, mfl_print 65,760, mfl_resolve 57,152, the others under 4 KiB.
  *
  * Every call that reads statements takes a ceiling, last: the largest count that a text may have, from 0 to 256. Held to it are single counts,
  * both ends of a range wherever one stands, and the entries of an array of counts; not names that are numbers, and not ALLOMETRY's reference.

@@ -21,7 +21,7 @@ Whether a space is of the PK-only profile:
     dumachik.Refusal: 22 at 1 (statement 1): feature outside the PK-only profile
 
 One file over a shared library, with ctypes alone. `tools/shared-library` makes the library; it is looked for beside this file and in the
-repository's target/staticlib, or where DUMACHIK_SO says.
+repository's crates/dumachik/out, or where DUMACHIK_SO says.
 """
 import ctypes
 import dataclasses
@@ -191,7 +191,7 @@ class _Note(ctypes.Structure):
 def _load():
     here = pathlib.Path(__file__).resolve().parent
     named = os.environ.get("DUMACHIK_SO")
-    places = [pathlib.Path(named)] if named else [here / "libdumachik.so", here.parent / "target" / "staticlib" / "libdumachik.so"]
+    places = [pathlib.Path(named)] if named else [here / "libdumachik.so", here.parent / "crates" / "dumachik" / "out" / "libdumachik.so"]
     found = next((place for place in places if place.exists()), None)
     if found is None:
         raise ImportError(f"not found: {places[-1]} (tools/shared-library makes it; DUMACHIK_SO names another)")

@@ -1,4 +1,4 @@
-//! Links libdumachik.a, from target/staticlib of the repository or from the folder that DUMACHIK_LIB names.
+//! Links libdumachik.a, from crates/dumachik/out of the repository or from the folder that DUMACHIK_LIB names.
 use std::path::PathBuf;
 use std::{env, fs, process};
 
@@ -6,7 +6,7 @@ use std::{env, fs, process};
 const CALLS: [&str; 7] = ["mfl_scan", "mfl_count", "mfl_print", "mfl_statement", "mfl_statements", "mfl_profile", "mfl_resolve"];
 
 fn main() {
-    let beside = || PathBuf::from(env!("CARGO_MANIFEST_DIR")).join("../target/staticlib");
+    let beside = || PathBuf::from(env!("CARGO_MANIFEST_DIR")).join("../crates/dumachik/out");
     let folder = env::var_os("DUMACHIK_LIB").map_or_else(beside, PathBuf::from);
     let library = folder.join("libdumachik.a");
     println!("cargo::rerun-if-env-changed=DUMACHIK_LIB");
@@ -26,7 +26,7 @@ fn main() {
 
 fn stop(why: &str) -> ! {
     println!("cargo::error={why}");
-    println!("cargo::error=run `rt staticlib dumachik` in the repository, or set DUMACHIK_LIB to the folder that has libdumachik.a");
+    println!("cargo::error=run `rt lib` in crates/dumachik of the repository, or set DUMACHIK_LIB to the folder that has libdumachik.a");
     // Cargo fails the build for the lines above.
     process::exit(0);
 }

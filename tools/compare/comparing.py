@@ -54,7 +54,7 @@ class Comparison:
         seed = int(sys.argv[2])
         self.number = self.left = int(sys.argv[1])
         self.texts, self.rng = Texts(seed), random.Random(seed)
-        self.program = pathlib.Path(sys.argv[3]) if sys.argv[3:] else judged.REPOSITORY / "target" / "bin" / "replay"
+        self.program = pathlib.Path(sys.argv[3]) if sys.argv[3:] else judged.PROGRAM
         self.judge = judged.judge()
         self.kinds, self.differences = Counter(), []
 

@@ -7,6 +7,9 @@ import sys
 HERE = pathlib.Path(__file__).resolve().parent
 REPOSITORY = HERE.parent.parent
 
+# Where `rt run` in crates/replay leaves the program.
+PROGRAM = REPOSITORY / "crates" / "replay" / "out" / "replay"
+
 # The texts and places of the comparisons serve the stored list too.
 sys.path.insert(0, str(HERE.parent / "compare"))
 
