@@ -180,7 +180,9 @@ fn answer_written(
     text_lines::put_written(out, len, &page, lines.count)
 }
 
-// The answer about a text, where the context starts at an offset of the line. A context of more than 16,384 numbers is none.
+// The answer about a text, where the context starts at an offset of the line. A context of more than 16,384 numbers is none. It is kept out of its
+// caller, since LLVM would put the caller's search for a blank before the loop that reserves its large frame, and lose the blank's place there.
+#[inline(never)]
 fn answer_context(
     wanted: Wanted,
     line: &[u8],
