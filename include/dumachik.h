@@ -6,7 +6,7 @@
  * not read, but must not be null.
  *
  * Limits: 16,384 bytes of text, 256 statements, 64 entries of an array. The stack that a call takes at most, whatever it is given
- * (docs/BENCHMARKS.md): mfl_statements 125,296 bytes, mfl_profile 104,800, mfl_print 65,760, mfl_resolve 57,152, the others under 4 KiB.
+ * (docs/BENCHMARKS.md): mfl_statements 125,360 bytes, mfl_profile 104,864, mfl_print 66,272, mfl_resolve 57,712, the others under 4 KiB.
  *
  * Every call that reads statements takes a ceiling, last: the largest count that a text may have, from 0 to 256. Held to it are single counts,
  * both ends of a range wherever one stands, and the entries of an array of counts; not names that are numbers, and not ALLOMETRY's reference.

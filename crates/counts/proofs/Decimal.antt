@@ -1,5 +1,6 @@
 -- A number's decimal digits: they are digits, their value is the number, and no digits of the same value are fewer.
 -- Assumes nothing.
+use Rattle.std.specs.Prelude.{Some}
 use Prim.Native.Nat.{ℕ, zero, suc, ◌+◌, ◌-◌, ◌*◌, ◌/◌, ◌%◌, ◌≤◌, ◌<◌}
 use native.Mathlib.Omega.{arith}
 use mathlib.Core.Bool.{Bool, true, false, and-eq-true_iff, false≢true}
@@ -12,7 +13,6 @@ use borrow.Author.Tests.{lt-ltb, le-ltb, le-leb, ltb-true, ltb-false}
 use Rattle.text.specs.Bytes.{every}
 use Rattle.counts.specs.Count.{is_digit, whole, value_after, value, count_of}
 use Rattle.counts.specs.Decimal.{digit_for, digits_in, digits_of}
-use Rattle.counts.specs.declared.Counted.TheVariants.{Count}
 use Rattle.counts.proofs.Digits.{is_digit_bounds, value_after_snoc, whole_snoc}
 
 lt-or_ge : (a b : ℕ) → (a < b) ⊎ (b ≤ a)
@@ -85,7 +85,7 @@ whole-digits_of =
     (whole_snoc (digits_of (n / 10)) (digit_for (n % 10)) tens (is_digit-digit_for (n % 10) (omega arith))))
 
 -- a count that is printed is read again as itself
-pub count_of-digits_of : (limit n : ℕ) → n ≤ limit → n ≤ 4294967295 → count_of limit (digits_of n) ≡ Count n
+pub count_of-digits_of : (limit n : ℕ) → n ≤ limit → n ≤ 4294967295 → count_of limit (digits_of n) ≡ Some n
 unfolding count_of
 count_of-digits_of limit n h l = rw (whole-digits_of n, value-digits_of n, le-leb n 4294967295 l, le-leb n limit h)
 

@@ -1,9 +1,7 @@
 -- Document 01, Faults, 4: "count not a whole 32-bit number, or above 64". The limit is a parameter.
-use Rattle.std.specs.Prelude.{ℕ, ◌+◌, ◌-◌, ◌*◌, Bool, false, cond, ◌&&◌, List, [], ◌∷◌, leb}
+use Rattle.std.specs.Prelude.{ℕ, ◌+◌, ◌-◌, ◌*◌, Bool, false, cond, ◌&&◌, List, [], ◌∷◌, leb, Option, Some, None}
 use Prim.Native.Char.{code}
 use Rattle.text.specs.Bytes.{between, every}
-use Rattle.counts.specs.declared.Counted.{Counted}
-use Rattle.counts.specs.declared.Counted.TheVariants.{Count, Refused}
 
 abbrev pub is_digit : ℕ → Bool
 is_digit b = between "0" "9" b
@@ -25,5 +23,5 @@ abbrev pub is_count : ℕ → List ℕ → Bool
 is_count limit ds = whole ds && leb (value ds) 4294967295 && leb (value ds) limit
 
 -- a number's text as a count under a limit
-unfoldable pub count_of : ℕ → List ℕ → Counted
-count_of limit ds = cond (is_count limit ds) (Count (value ds)) Refused
+unfoldable pub count_of : ℕ → List ℕ → Option ℕ
+count_of limit ds = cond (is_count limit ds) (Some (value ds)) None

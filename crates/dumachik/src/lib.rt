@@ -18,7 +18,6 @@ ghost use Rattle.words.specs.Word.{word};
 ghost use Rattle.read_profile.specs.Answers.{yes_as_zero};
 
 use resolve_records::{Effect, Resolving};
-use tokens::Scanned;
 
 // The offset of the first byte that starts no token, or the text's length where there is none.
 #[unsafe(no_mangle)]
@@ -26,8 +25,8 @@ pub extern "C" fn mfl_scan(text: &[u8]) -> usize
     ensures { result ≡ stray_at (length text.now) (scanned (tokens text.now)) }
 {
     match tokens::scan_text(text) {
-        Scanned::Whole => text.len(),
-        Scanned::Stray(at) => at,
+        None => text.len(),
+        Some(at) => at,
     }
 }
 
@@ -36,7 +35,7 @@ pub extern "C" fn mfl_scan(text: &[u8]) -> usize
 pub extern "C" fn mfl_count(text: &[u8], ceiling: u32) -> u64
     ensures { result ≡ word (counting ceiling text.now) }
 {
-    read_text::count_under(text, ceiling).word()
+    words::word_of(read_text::count_under(text, ceiling))
 }
 
 // Statement: the numbers of the statement at an index in `out`, and how many they are.
@@ -45,7 +44,7 @@ pub extern "C" fn mfl_statement(text: &[u8], index: u32, out: &mut [u32], ceilin
     ensures value { result ≡ word (length_of (fitting (length out.old) (numbering ceiling text.now index))) }
     ensures out_after { out.new ≡ output (fitting (length out.old) (numbering ceiling text.now index)) out.old }
 {
-    numbers_statement::numbers_under(text, index, ceiling, out).word()
+    words::word_of(numbers_statement::numbers_under(text, index, ceiling, out))
 }
 
 // Statement of every index at once: the numbers of all statements in `out`, one statement after the other, those of each behind how many they
@@ -55,7 +54,7 @@ pub extern "C" fn mfl_statements(text: &[u8], out: &mut [u32], ceiling: u32) -> 
     ensures value { result ≡ word (length_of (fitting (length out.old) (all_numbering ceiling text.now))) }
     ensures out_after { out.new ≡ output (fitting (length out.old) (all_numbering ceiling text.now)) out.old }
 {
-    numbers_all::all_numbers_under(text, ceiling, out).word()
+    words::word_of(numbers_all::all_numbers_under(text, ceiling, out))
 }
 
 // Print: the canonical text's bytes in `out`, and their number.
@@ -64,15 +63,14 @@ pub extern "C" fn mfl_print(text: &[u8], out: &mut [u8], ceiling: u32) -> u64
     ensures value { result ≡ word (length_of (fitting (length out.old) (print_text ceiling text.now))) }
     ensures out_after { out.new ≡ output (fitting (length out.old) (print_text ceiling text.now)) out.old }
 {
-    print_render::print_under(
+    words::word_of(print_render::print_under(
         text,
         &tokens::CLASSES,
         &labels::LABELS,
         &labels::KEYWORDS,
         out,
         ceiling,
-    )
-    .word()
+    ))
 }
 
 // The PK-only profile: 0 where a text fits it.
@@ -80,7 +78,7 @@ pub extern "C" fn mfl_print(text: &[u8], out: &mut [u8], ceiling: u32) -> u64
 pub extern "C" fn mfl_profile(text: &[u8], ceiling: u32) -> u64
     ensures { result ≡ word (yes_as_zero (profile_text ceiling text.now)) }
 {
-    read_profile::profile_under(text, ceiling).word()
+    read_profile::word_of(read_profile::profile_under(text, ceiling))
 }
 
 // Resolve: the ground text in `ground`, the effects in `effects` and the notes in `notes`, and how many each has. The effects come packed at the

@@ -2,6 +2,7 @@
 ghost use Rattle.std.specs.Prelude.{◌≤◌};
 
 use print_lines::Asked;
+use show_input::Ceiling;
 
 // What is asked for, under which ceiling for counts, and the index of the context file's name.
 #[derive(Clone, Copy)]
@@ -11,20 +12,6 @@ pub struct Wish {
     pub first: usize,
 }
 
-// Lines, or nothing where the arguments are not as they should be.
-#[derive(Clone, Copy)]
-pub enum Wanted {
-    Lines(Wish),
-    Nothing,
-}
-
-// What a word asks for; a file's name is asked for its ground text.
-#[derive(Clone, Copy)]
-enum Word {
-    Lines(Asked),
-    Nothing,
-}
-
 pub fn usage(rt: &HostRuntime) {
     show_input::tell_bytes(
         rt,
@@ -32,21 +19,17 @@ pub fn usage(rt: &HostRuntime) {
     )
 }
 
-// What a first argument asks for: a file's name does not start with a hyphen.
-fn asked_by(word: &[u8]) -> Word {
-    if labels::same_word(word, b"--effects") {
-        return Word::Lines(Asked::Effects);
+// What a first argument asks for; a file's name, which is asked for its ground text, does not start with a hyphen.
+fn asked_by(word: &[u8]) -> Option<Asked> {
+    if word.eq_ignore_ascii_case(b"--effects") {
+        Some(Asked::Effects)
+    } else if word.eq_ignore_ascii_case(b"--notes") {
+        Some(Asked::Notes)
+    } else if word.starts_with(b"-") {
+        None
+    } else {
+        Some(Asked::Ground)
     }
-    if labels::same_word(word, b"--notes") {
-        return Word::Lines(Asked::Notes);
-    }
-    if word.len() == 0 {
-        return Word::Lines(Asked::Ground);
-    }
-    if word[0] == b'-' {
-        return Word::Nothing;
-    }
-    Word::Lines(Asked::Ground)
 }
 
 // The index of the first file's name, by that of the word that asks: an option stands before it.
@@ -56,73 +39,44 @@ fn first_file(asked: Asked, index: usize) -> usize
 {
     match asked {
         Asked::Ground => index,
-        Asked::Effects => index + 1,
-        Asked::Notes => index + 1,
+        Asked::Effects | Asked::Notes => index + 1,
     }
 }
 
 // Whether an argument starts with a hyphen.
 fn is_hyphened(rt: &HostRuntime, index: usize, count: usize, name: &mut [u8]) -> bool {
-    if count <= index {
-        return false;
-    }
-    let n = show_input::argument_length(rt, index, name);
-    if n == 0 {
-        return false;
-    }
-    name[0] == b'-'
+    index < count && show_input::argument_or_empty(rt, index, name).starts_with(b"-")
 }
 
-// The names of one or two files follow from an index on.
-fn if_files(rt: &HostRuntime, wish: Wish, count: usize, name: &mut [u8]) -> Wanted {
-    let index = wish.first;
-    if 4 < index {
-        return Wanted::Nothing;
-    }
-    if count <= index {
-        return Wanted::Nothing;
-    }
-    if 2 < count - index {
-        return Wanted::Nothing;
-    }
-    if is_hyphened(rt, index, count, name) {
-        return Wanted::Nothing;
-    }
-    if is_hyphened(rt, index + 1, count, name) {
-        return Wanted::Nothing;
-    }
-    Wanted::Lines(wish)
+// Whether the names of one or two files follow from an index on.
+fn has_files(rt: &HostRuntime, index: usize, count: usize, name: &mut [u8]) -> bool
+    requires { index ≤ 4 }
+{
+    index < count
+        && count - index <= 2
+        && !is_hyphened(rt, index, count, name)
+        && !is_hyphened(rt, index + 1, count, name)
 }
 
-// What the arguments from an index on ask for, or nothing where they are not as they should be.
+// What the arguments behind a ceiling ask for, or nothing where they are not as they should be.
 pub fn asked_for(
     rt: &HostRuntime,
-    ceiling: u32,
-    index: usize,
+    ceiling: Ceiling,
     count: usize,
     name: &mut [u8],
-) -> Wanted {
-    if count <= index {
-        return Wanted::Nothing;
+) -> Option<Wish> {
+    let index = ceiling.behind;
+    if count <= index || 3 < index {
+        return None;
     }
-    if 3 < index {
-        return Wanted::Nothing;
+    let asked = asked_by(show_input::argument_or_empty(rt, index, name))?;
+    let first = first_file(asked, index);
+    if !has_files(rt, first, count, name) {
+        return None;
     }
-    let n = show_input::argument_length(rt, index, name);
-    match asked_by(&name[..n]) {
-        Word::Lines(asked) => {
-            let first = first_file(asked, index);
-            if_files(
-                rt,
-                Wish {
-                    asked,
-                    ceiling,
-                    first,
-                },
-                count,
-                name,
-            )
-        }
-        Word::Nothing => Wanted::Nothing,
-    }
+    Some(Wish {
+        asked,
+        ceiling: ceiling.limit,
+        first,
+    })
 }

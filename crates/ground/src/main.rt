@@ -7,82 +7,67 @@
 mod asked;
 mod ground_files;
 
-use crate::asked::{Wanted, Wish};
+use crate::asked::Wish;
 use print_lines::Asked;
-use read_forms::Refusal;
-use replay_lines::within;
-use resolve_settling::Resolved;
+use read_forms::{Fault, Refusal};
+use show_contexts::context_names::Context;
 use show_contexts::{context_file, context_messages};
-use show_input::{Ceiling, Got};
-use show_pages::pages;
+use show_input::Ceiling;
+use show_pages::pages::Page;
 use show_refusals::{ground_messages, warnings};
+
+// A context with the file that it was read from, by its name.
+#[derive(Clone, Copy)]
+struct Given<'a, 'b> {
+    path: &'a [u8],
+    file: &'a [u8],
+    context: Context<'b>,
+}
 
 // The message for a person: what is wrong with the context has its file's name before it.
 fn explain(
     rt: &HostRuntime,
-    page: &mut [u8],
+    buffer: &mut [u8],
     text: &[u8],
-    block: &[u8],
-    lists: &[u32],
-    path: &[u8],
-    file: &[u8],
+    given: Given,
     refusal: Refusal,
     ceiling: u32,
 ) {
-    let a = pages::put_all(page, 0, b"ground: ");
-    if refusal.number == resolve_taking::WRONG_CONTEXT {
-        let b = pages::put_all(page, a, path);
-        let c = pages::put_all(page, b, b": ");
-        let d = context_messages::put_wrong(page, c, block, lists, file);
-        return show_input::write_message(rt, page, d);
+    let mut page = Page::new(buffer);
+    page.put_str("ground: ");
+    if refusal.fault == Fault::WrongContext {
+        page.put_all(given.path);
+        page.put_str(": ");
+        context_messages::put_wrong(&mut page, given.context, given.file);
+    } else {
+        ground_messages::put_fault(&mut page, text, given.context, refusal, ceiling);
     }
-    let b = ground_messages::put_fault(
-        page,
-        a,
-        text,
-        block,
-        lists,
-        refusal.number,
-        refusal.place,
-        ceiling,
-    );
-    show_input::write_message(rt, page, b)
+    show_input::write_message(rt, &page)
 }
 
 // What is lawful and yet lost: behind the notes where they are asked for, and for a person otherwise.
 fn warn(
     rt: &HostRuntime,
-    page: &mut [u8],
+    buffer: &mut [u8],
     asked: Asked,
     text: &[u8],
-    block: &[u8],
-    lists: &[u32],
-    file: &[u8],
+    given: Given,
     effects: &[[u8; 5]],
 ) {
+    let word: &[u8] = match asked {
+        Asked::Notes => b"warning: ",
+        Asked::Ground | Asked::Effects => b"ground: warning: ",
+    };
+    let mut page = Page::new(buffer);
+    warnings::put_warnings(&mut page, text, given.context, given.file, effects, word);
     match asked {
-        Asked::Notes => {
-            let n = warnings::put_warnings(page, text, block, lists, file, effects, b"warning: ");
-            show_input::write_page(rt, b"ground: ", page, n)
-        }
-        _ => {
-            let word = b"ground: warning: ";
-            let n = warnings::put_warnings(page, text, block, lists, file, effects, word);
-            show_input::write_message(rt, page, n)
-        }
+        Asked::Notes => show_input::write_page(rt, b"ground: ", page.whole()),
+        Asked::Ground | Asked::Effects => show_input::write_message(rt, &page),
     }
 }
 
 // The answer about a text in a context. The page has room for 2,048 effects and 257 notes in words, which is more than anything else has.
-fn answer(
-    rt: &HostRuntime,
-    wish: Wish,
-    text: &[u8],
-    block: &[u8],
-    lists: &[u32],
-    path: &[u8],
-    file: &[u8],
-) {
+fn answer(rt: &HostRuntime, wish: Wish, text: &[u8], given: Given) {
     let asked = wish.asked;
     let ceiling = wish.ceiling;
     let mut page = [0; 262144];
@@ -93,8 +78,8 @@ fn answer(
     let lines = resolve_lines::resolve_lines(
         asked,
         text,
-        block,
-        lists,
+        given.context.block,
+        given.context.lists,
         &mut ground,
         &mut effects,
         &mut notes,
@@ -102,110 +87,72 @@ fn answer(
         &mut page,
         ceiling,
     );
-    show_input::write_page(rt, b"ground: ", &page, lines.count);
+    show_input::write_page(rt, b"ground: ", page.get(..lines.count));
     let answer = lines.answer;
     match answer {
-        Resolved::Refused(refusal) => {
-            explain(
-                rt, &mut page, text, block, lists, path, file, refusal, ceiling,
-            )
-        }
-        Resolved::Lengths(n) => {
+        Err(refusal) => explain(rt, &mut page, text, given, refusal, ceiling),
+        Ok(n) => {
             ground_files::tell_unasked(rt, asked, &mut page, text, &notes, n.notes);
-            let m = within::effects(n.effects, &effects);
-            warn(
-                rt,
-                &mut page,
-                asked,
-                text,
-                block,
-                lists,
-                file,
-                &effects[..m],
-            )
+            let effects = effects.get(..n.effects).unwrap_or(&[]);
+            warn(rt, &mut page, asked, text, given, effects)
         }
     }
 }
 
 // The answer about a text, where the context's file was read.
-fn answer_context(rt: &HostRuntime, wish: Wish, text: &[u8], path: &[u8], file: &[u8]) {
+fn answer_context<'a>(rt: &HostRuntime, wish: Wish, text: &[u8], path: &'a [u8], file: &'a [u8]) {
     let mut block = io::large_buffer();
     let mut run = [0; 66000];
-    let taken = context_file::read_context(file, &mut block, &mut run);
-    if taken.cause != context_file::FINE {
-        return ground_files::tell_malformed(rt, path, file, taken);
-    }
-    let bytes = pages::within(taken.bytes, &block);
-    let numbers = within::numbers(taken.numbers, &run);
-    answer(rt, wish, text, &block[..bytes], &run[..numbers], path, file)
-}
-
-// A file that fills its buffer may go on beyond it.
-fn answer_file(rt: &HostRuntime, wish: Wish, text: &[u8], path: &[u8], file: &[u8], length: usize) {
-    if file.len() <= length {
-        show_input::tell_failed(rt, b"ground: ");
-        show_input::tell_bytes(rt, path);
-        show_input::tell_bytes(rt, b": more than 65535 bytes, the most of a context file\n");
-        return;
-    }
-    let n = pages::within(length, file);
-    answer_context(rt, wish, text, path, &file[..n])
-}
-
-// Where the text was read: its bytes, in the context of a file.
-fn answer_text(
-    rt: &HostRuntime,
-    wish: Wish,
-    text: &[u8],
-    got: Got,
-    path: &[u8],
-    file: &[u8],
-    length: usize,
-) {
-    match got {
-        Got::Failed(_) => {}
-        Got::Bytes(n) => {
-            let whole = pages::within(n, text);
-            answer_file(rt, wish, &text[..whole], path, file, length)
+    match context_file::read_context(file, &mut block, &mut run) {
+        Ok(taken) => {
+            let context = taken.context();
+            answer(
+                rt,
+                wish,
+                text,
+                Given {
+                    path,
+                    file,
+                    context,
+                },
+            )
         }
+        Err(malformed) => ground_files::tell_malformed(rt, path, file, malformed),
     }
 }
 
-// The context's file, whose name is there, and then the text.
-fn answer_named(rt: &HostRuntime, wish: Wish, path: &[u8], index: usize, count: usize) {
+// The context's file, whose name is there, and then the text. A file that fills its buffer may go on beyond it. A failure is told where a file
+// is read.
+fn answer_named(rt: &HostRuntime, wish: Wish, path: &[u8]) {
     let mut name = io::buffer();
     let mut file = io::large_buffer();
     let mut text = io::large_buffer();
-    match show_input::read_file(rt, b"ground: ", path, &mut file) {
-        Got::Failed(_) => {}
-        Got::Bytes(n) => {
-            let got = ground_files::read_text(rt, index, count, &mut name, &mut text);
-            answer_text(rt, wish, &text, got, path, &file, n)
-        }
+    let Ok(file) = show_input::read_file(rt, b"ground: ", path, &mut file) else {
+        return;
+    };
+    let next = wish.first.saturating_add(1);
+    let Ok(text) = ground_files::read_text(rt, next, &mut name, &mut text) else {
+        return;
+    };
+    if 65535 < file.len() {
+        show_input::tell_failed(rt, b"ground: ");
+        show_input::tell_bytes(rt, path);
+        show_input::tell_bytes(rt, b": more than 65535 bytes, the most of a context file\n")
+    } else {
+        answer_context(rt, wish, text, path, file)
     }
 }
 
-// The name of the context's file is the argument at an index; at the next one the text's may follow.
-fn answer_arguments(rt: &HostRuntime, wish: Wish, count: usize, name: &mut [u8]) {
-    let index = wish.first;
-    if 4 < index {
-        return asked::usage(rt);
-    }
-    match show_input::argument(rt, b"ground: ", index, name) {
-        Got::Failed(_) => {}
-        Got::Bytes(n) => {
-            let whole = pages::within(n, name);
-            answer_named(rt, wish, &name[..whole], index + 1, count)
-        }
-    }
-}
-
-// What the words from an index on ask for, under a ceiling.
-fn answer_words(rt: &HostRuntime, ceiling: u32, index: usize, name: &mut [u8]) {
+// What the words behind a ceiling ask for: the name of the context's file is an argument, and the text's may follow.
+fn answer_words(rt: &HostRuntime, ceiling: Ceiling, name: &mut [u8]) {
     let count = show_input::argument_count(rt);
-    match asked::asked_for(rt, ceiling, index, count, name) {
-        Wanted::Nothing => asked::usage(rt),
-        Wanted::Lines(wish) => answer_arguments(rt, wish, count, name),
+    match asked::asked_for(rt, ceiling, count, name) {
+        None => asked::usage(rt),
+        Some(wish) => {
+            if let Ok(path) = show_input::argument(rt, b"ground: ", wish.first, name) {
+                answer_named(rt, wish, path)
+            }
+        }
     }
 }
 
@@ -215,7 +162,7 @@ fn main(rt: HostRuntime) {
         return show_input::write_version(&rt, b"ground: ");
     }
     match show_input::ceiling_words(&rt, &mut name) {
-        Ceiling::Under(ceiling, index) => answer_words(&rt, ceiling, index, &mut name),
-        Ceiling::Wrong => asked::usage(&rt),
+        Some(ceiling) => answer_words(&rt, ceiling, &mut name),
+        None => asked::usage(&rt),
     }
 }

@@ -12,7 +12,12 @@ use lib.ListN.{length, get_or, drop, drop_of_length-le}
 use lib.Seq.{drop-cons}
 use borrow.Author.Tests.{eq-eqb, eqb-true, ne_eqb}
 pub use Rattle.text.proofs.Tests.{halves}
+use Rattle.std.specs.Char.{to_ascii_lowercase}
 use Rattle.labels.specs.Word.{lower, same_word}
+
+-- std's lower case of a byte is the definition's
+pub lower_ascii : (b : ℕ) → to_ascii_lowercase b ≡ lower b
+lower_ascii b = grind arith
 
 pub same-lower : (v w : List ℕ) → same_word v w ≡ true → map lower v ≡ map lower w
 unfolding same_word

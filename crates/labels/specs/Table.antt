@@ -1,11 +1,9 @@
 -- Document 01, Forms: "one label table with family marks, one proof for all families". A table is rows of 16 bytes: the mark of
 -- the family, the number of the label's bytes, the label, and then digits.
-use Rattle.std.specs.Prelude.{ℕ, List, [], ◌∷◌, ◌++◌, length, take}
+use Rattle.std.specs.Prelude.{ℕ, List, [], ◌∷◌, ◌++◌, length, take, Option as Option·rust, Some, None}
 use Rattle.std.proofs.Math.Option.{Option, some, none}
 use Rattle.text.specs.Bytes.{bytes}
 use Rattle.labels.specs.declared.Family.{Family}
-use Rattle.labels.specs.declared.Found.{Found}
-use Rattle.labels.specs.declared.Found.TheVariants.{Place, Nothing}
 use Rattle.labels.specs.Label.{families, mark_of, keyword_mark, labels_of, keywords}
 
 abbrev pub row : ℕ → List ℕ → List ℕ
@@ -27,6 +25,6 @@ unfoldable pub keyword_table : List ℕ
 keyword_table = rows keyword_mark keywords
 
 -- a place in a family, or none, as a look-up answers it
-abbrev pub found_as : Option ℕ → Found
-found_as none = Nothing
-found_as (some i) = Place i
+abbrev pub found_as : Option ℕ → Option·rust ℕ
+found_as none = None
+found_as (some i) = Some i

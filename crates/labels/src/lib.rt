@@ -2,7 +2,7 @@
 #![tactic(auto)]
 
 ghost use Rattle.std.specs.Prelude.{◌≡◌, true, [], ◌<◌, length, get_or};
-ghost use Rattle.labels.specs.Word.{lower, same_word, find};
+ghost use Rattle.labels.specs.Word.{same_word, find};
 ghost use Rattle.labels.specs.Label.{mark_of, labels_of, keywords};
 ghost use Rattle.labels.specs.Table.{label_table, keyword_table, found_as};
 ghost use Rattle.labels.specs.Row.{label_at, labels_in, row_fits, rows_fit, Holds};
@@ -22,13 +22,6 @@ pub enum Family {
     MetaboliteMode,
     VariabilityEffect,
     VariabilityLevel,
-}
-
-// The place of a label in its family, counted from zero, or no label.
-#[derive(Clone, Copy)]
-pub enum Found {
-    Place(usize),
-    Nothing,
 }
 
 // The bytes of a row of a table. Each row has a label: its family's mark, the number of the label's bytes, these bytes, and then digits. A compiler
@@ -99,18 +92,6 @@ pub const KEYWORDS: Keywords = *b"\
     \x0b\x03LET0123456789a\
 ";
 
-// A letter's lower case, as ASCII has it.
-fn lower_byte(b: u8) -> u8
-    ensures { result ≡ lower b }
-{
-    if b'A' <= b {
-        if b <= b'Z' {
-            return b + 32;
-        }
-    }
-    b
-}
-
 // Whether two words are the same, ignoring case. The lengths are compared before the bytes: most labels differ from a word there already.
 // Bytes are compared as they are before their lower cases: most words that are a label are spelled as it is.
 pub fn same_word(word: &[u8], label: &[u8]) -> bool
@@ -119,16 +100,12 @@ pub fn same_word(word: &[u8], label: &[u8]) -> bool
     if word.len() != label.len() {
         return false;
     }
-    let mut i = 0;
-    while i < word.len() {
+    for i in 0..word.len() {
         let a = word[i];
         let b = label[i];
-        if a != b {
-            if lower_byte(a) != lower_byte(b) {
-                return false;
-            }
+        if a != b && a.to_ascii_lowercase() != b.to_ascii_lowercase() {
+            return false;
         }
-        i += 1;
     }
     true
 }
@@ -145,20 +122,18 @@ fn label_at(table: &[u8], row: usize) -> &[u8]
     &table[start..end]
 }
 
-// The place of a word among the labels of some rows.
-fn find_rows(table: &[u8], first: usize, count: usize, word: &[u8]) -> Found
+// The place of a word among the labels of some rows, counted from zero.
+fn find_rows(table: &[u8], first: usize, count: usize, word: &[u8]) -> Option<usize>
     requires { rows_fit table.now first count ≡ true }
     ensures { result ≡ found_as (find word.now (labels_in table.now first count)) }
 {
-    let mut place = 0;
-    while place < count {
+    for place in 0..count {
         let label = label_at(table, first + place);
         if same_word(word, label) {
-            return Found::Place(place);
+            return Some(place);
         }
-        place += 1;
     }
-    Found::Nothing
+    None
 }
 
 // The rows of a family, which are those with its mark: the first, and how many.
@@ -186,7 +161,7 @@ fn rows_of(family: Family) -> Rows
 
 // The place of a mode's label in its family. The outermost caller makes the table once and lends it: a constant is built anew wherever it
 // is indexed.
-pub fn find_mode(labels: &Labels, family: Family, word: &[u8]) -> Found
+pub fn find_mode(labels: &Labels, family: Family, word: &[u8]) -> Option<usize>
     requires { labels.now ≡ label_table }
     ensures { result ≡ found_as (find word.now (labels_of family)) }
 {
@@ -227,19 +202,19 @@ fn likely(count: usize, second: u8) -> usize
 
 // The place of a keyword, in the table that the outermost caller lends. At most one row is compared: no two keywords have both their length
 // and their second letter in common.
-pub fn find_keyword(keys: &Keywords, word: &[u8]) -> Found
+pub fn find_keyword(keys: &Keywords, word: &[u8]) -> Option<usize>
     requires { keys.now ≡ keyword_table }
     ensures { result ≡ found_as (find word.now keywords) }
 {
     if word.len() < 3 {
-        return Found::Nothing;
+        return None;
     }
-    let place = likely(word.len(), lower_byte(word[1]));
+    let place = likely(word.len(), word[1].to_ascii_lowercase());
     let label = label_at(keys, place);
     if same_word(word, label) {
-        return Found::Place(place);
+        return Some(place);
     }
-    Found::Nothing
+    None
 }
 
 // No bytes of a table.
@@ -271,7 +246,7 @@ pub fn keyword_label(keys: &Keywords, place: usize) -> &[u8]
 }
 
 // A single look-up, which makes the table itself.
-pub fn mode(family: Family, word: &[u8]) -> Found
+pub fn mode(family: Family, word: &[u8]) -> Option<usize>
     ensures { result ≡ found_as (find word.now (labels_of family)) }
 {
     let labels = LABELS;
@@ -279,7 +254,7 @@ pub fn mode(family: Family, word: &[u8]) -> Found
 }
 
 // A single look-up of a keyword.
-pub fn keyword(word: &[u8]) -> Found
+pub fn keyword(word: &[u8]) -> Option<usize>
     ensures { result ≡ found_as (find word.now keywords) }
 {
     let keys = KEYWORDS;

@@ -6,6 +6,7 @@ use mathlib.Core.Path.{◌≡◌, ap, sym, subst}
 use mathlib.Core.List.{List}
 use lib.ListN.{length}
 use Rattle.reading.specs.Statement.{Statement}
+use Rattle.read_forms.specs.Faults.{number_of, refused_by}
 use Rattle.reading.specs.Answer.{Answer, accepted, refused}
 use Rattle.reading.specs.Read.{read_text}
 use Rattle.canonical.specs.Print.{Answers}
@@ -18,10 +19,10 @@ use Rattle.print_writing.proofs.Answering as filled
 -- a text that is refused
 pub refused_answers :
     (limit : ℕ) (s before : List ℕ) (r : Refusal)
-    → read_text limit s ≡ refused r.number r.place
-    → Answers (all_numbering limit s) before before (refused r.number r.place)
+    → read_text limit s ≡ refused_by r
+    → Answers (all_numbering limit s) before before (refused_by r)
 unfolding all_numbering
-refused_answers limit s before r e = filled.refused_answers before (all_numbering limit s) r.number r.place (ap all_numbered e)
+refused_answers limit s before r e = filled.refused_answers before (all_numbering limit s) (number_of r.fault) r.place (ap all_numbered e)
 
 -- a text that is accepted has the numbers of its statements
 pub accepted_answers :

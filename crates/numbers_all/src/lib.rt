@@ -14,16 +14,14 @@ ghost use Rattle.read_parts.specs.Apart.{apart};
 ghost use Rattle.read_parts.specs.Meaning.{PartsFit};
 ghost use Rattle.print_writing.specs.Written.{Written};
 ghost use Rattle.numbers_statement.specs.Ready.{Ready};
-ghost use Rattle.numbers_statement.specs.Answers.{numbers_as};
+ghost use Rattle.read_forms.specs.Faults.{answered, same};
 ghost use Rattle.read_space.specs.Space.{statements_in, Whole};
 ghost use Rattle.numbers_all.specs.Answers.{WasRead};
 ghost use Rattle.reading_laws.specs.Admitted.{Admitted};
 
 use labels::{Keywords, Labels};
-use numbers_statement::NumbersAt;
-use read_forms::{Admission, Feature, Modes, Refusal, Statement};
-use read_space::{Ending, Space};
-use read_statements::NextRead;
+use read_forms::{Fault, Feature, Modes, Refusal, Statement};
+use read_space::Space;
 use tokens::{Classes, Cursor};
 
 // The numbers of a statement behind how many they are, which is written when they are.
@@ -64,35 +62,30 @@ fn put_read(
     keys: &Keywords,
     limit: u32,
     out: &mut [u32],
-) -> NumbersAt
+) -> Result<usize, Refusal>
     requires { (classes.now ≡ class_table) × (labels.now ≡ label_table) × (keys.now ≡ keyword_table) × Admitted limit text.now
         × (2 * length text.now ≤ length out.old) }
-    ensures { Answers (all_numbering limit text.now) out.old out.new (numbers_as result) }
+    ensures { Answers (all_numbering limit text.now) out.old out.new (answered same result) }
 {
     let mut forms = no_forms();
     let mut n = 0;
     let mut cur = Cursor::new();
     loop {
         match read_statements::next_statement(text, classes, labels, keys, cur, n, limit) {
-            NextRead::Statement(form, after) => {
-                forms[n] = form;
-                cur = after;
+            Ok(Some(next)) => {
+                forms[n] = next.statement;
+                cur = next.cursor;
                 n += 1;
             }
-            NextRead::End => break,
-            NextRead::Refused(r) => {
-                return NumbersAt::Refused(read_statements::earliest(text, classes, r));
-            }
+            Ok(None) => break,
+            Err(r) => return Err(read_statements::earliest(text, classes, r)),
         }
     }
-    let mut i = 0;
     let mut at = 0;
-    while i < n {
-        let form = forms[i];
-        at = put_counted(text, classes, form, out, at);
-        i += 1;
+    for i in 0..n {
+        at = put_counted(text, classes, forms[i], out, at);
     }
-    NumbersAt::Count(at)
+    Ok(at)
 }
 
 // The numbers of statements that are kept, as far as the buffer has room, and how many there are.
@@ -100,33 +93,32 @@ fn put_space(text: &[u8], classes: &Classes, space: Space, out: &mut [u32]) -> u
     requires { (classes.now ≡ class_table) × Whole space × WasRead text.now (statements_in text.now space) }
     ensures { Written out.old 0 (all_numbers_of (statements_in text.now space)) out.new result }
 {
-    let forms = space.forms;
-    let count = space.count;
-    let mut i = 0;
     let mut at = 0;
-    while i < count {
-        let form = forms[i];
-        let statement = form.statement;
-        at = put_counted(text, classes, statement, out, at);
-        i += 1;
+    for i in 0..space.count {
+        at = put_counted(text, classes, space.forms[i].statement, out, at);
     }
     at
 }
 
 // The same if there is room for all of them: they are counted first, on none of the buffer.
-fn put_measured(text: &[u8], classes: &Classes, space: Space, out: &mut [u32]) -> NumbersAt
+fn put_measured(
+    text: &[u8],
+    classes: &Classes,
+    space: Space,
+    out: &mut [u32],
+) -> Result<usize, Refusal>
     requires { (classes.now ≡ class_table) × Whole space × WasRead text.now (statements_in text.now space) }
-    ensures { Answers (accepted (all_numbers_of (statements_in text.now space))) out.old out.new (numbers_as result) }
+    ensures { Answers (accepted (all_numbers_of (statements_in text.now space))) out.old out.new (answered same result) }
 {
     let room = out.len();
     let size = put_space(text, classes, space, &mut out[..0]);
     if room < size {
-        return NumbersAt::Refused(Refusal {
-            number: read_forms::TOO_SHORT,
+        return Err(Refusal {
+            fault: Fault::TooShort,
             place: 0,
         });
     }
-    NumbersAt::Count(put_space(text, classes, space, out))
+    Ok(put_space(text, classes, space, out))
 }
 
 // The numbers of all statements in a buffer of any length.
@@ -137,28 +129,20 @@ fn put_short(
     keys: &Keywords,
     limit: u32,
     out: &mut [u32],
-) -> NumbersAt
+) -> Result<usize, Refusal>
     requires { (classes.now ≡ class_table) × (labels.now ≡ label_table) × (keys.now ≡ keyword_table) × Admitted limit text.now }
-    ensures { Answers (all_numbering limit text.now) out.old out.new (numbers_as result) }
+    ensures { Answers (all_numbering limit text.now) out.old out.new (answered same result) }
 {
     let space = read_space::read_space(text, classes, labels, keys, limit);
-    let ending = space.ending;
-    match ending {
-        Ending::Refused(r) => NumbersAt::Refused(r),
-        Ending::Accepted => put_measured(text, classes, space, out),
-    }
+    space.ending?;
+    put_measured(text, classes, space, out)
 }
 
 // The numbers of all statements of a text, or why there are none.
-pub fn all_numbers_under(text: &[u8], limit: u32, out: &mut [u32]) -> NumbersAt
-    ensures { Answers (all_numbering limit text.now) out.old out.new (numbers_as result) }
+pub fn all_numbers_under(text: &[u8], limit: u32, out: &mut [u32]) -> Result<usize, Refusal>
+    ensures { Answers (all_numbering limit text.now) out.old out.new (answered same result) }
 {
-    match read_forms::admit(text, limit) {
-        Admission::Refused(r) => {
-            return NumbersAt::Refused(r);
-        }
-        Admission::Fine => {}
-    }
+    read_forms::admit(text, limit)?;
     let size = text.len();
     let classes = tokens::CLASSES;
     let labels = labels::LABELS;

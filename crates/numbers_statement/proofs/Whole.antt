@@ -1,13 +1,11 @@
 -- Measured, compared and written: the numbers if there is room for all of them, and else nothing but the refusal.
 -- Assumes nothing.
 use mathlib.Core.Path.{◌≡◌, refl, ◌∙◌, ap, sym, subst}
-use mathlib.Core.Bool.{true}
 use mathlib.Core.List.{List, [], ◌++◌}
 use Prim.Native.Nat.{ℕ, ◌≤◌, ◌<◌}
 use native.Mathlib.Omega.{arith}
 use lib.ListN.{length}
 use Rattle.text.specs.Lists.{all}
-use Rattle.reading.specs.Statement.{Statement}
 use Rattle.reading.specs.Answer.{accepted, refused}
 use Rattle.reading.specs.Read.{read_text}
 use Rattle.canonical.specs.Print.{Answers}

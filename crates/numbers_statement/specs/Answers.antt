@@ -4,8 +4,6 @@ use Rattle.reading.specs.Statement.{Statement}
 use Rattle.reading.specs.Answer.{Answer, accepted, refused}
 use Rattle.canonical.specs.Numbers.{numbers_of}
 use Rattle.reading.specs.Calls.{stating}
-use Rattle.numbers_statement.specs.declared.NumbersAt.{NumbersAt}
-use Rattle.numbers_statement.specs.declared.NumbersAt.TheVariants as numbersAt
 
 -- a statement's numbers, or its refusal
 abbrev pub numbered : Answer Statement → Answer (List ℕ)
@@ -15,7 +13,3 @@ numbered (refused n p) = refused n p
 -- the numbers of the statement of a text at an index, under a limit for counts
 abbrev pub numbering : ℕ → List ℕ → ℕ → Answer (List ℕ)
 numbering limit text index = numbered (stating limit text index)
-
-abbrev pub numbers_as : NumbersAt → Answer ℕ
-numbers_as (numbersAt.Count n) = accepted n
-numbers_as (numbersAt.Refused r) = refused r.number r.place

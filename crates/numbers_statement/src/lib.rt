@@ -15,15 +15,16 @@ ghost use Rattle.read_checks.specs.Answers.{entry_in};
 ghost use Rattle.read_parts.specs.Apart.{apart};
 ghost use Rattle.read_parts.specs.Meaning.{CountsFit, OperandFits, PartFits, PartsFit};
 ghost use Rattle.print_writing.specs.Written.{Written};
-ghost use Rattle.words.specs.Word.{word, Below};
+ghost use Rattle.read_forms.specs.Faults.{answered, same};
 ghost use Rattle.numbers_statement.specs.Ready.{Ready};
 ghost use Rattle.numbers_statement.specs.Entries.{entry_numbers, entries_numbers, numbers_in, taken_in};
-ghost use Rattle.numbers_statement.specs.Answers.{numbering, numbers_as};
+ghost use Rattle.numbers_statement.specs.Answers.{numbering};
 
 use read_checks::Entry as Here;
-use read_forms::{Counts, CovariateOp, Items, Kind, Modes, Name, Operand, Refusal, Statement};
+use read_forms::{
+    Counts, CovariateOp, Fault, Items, Kind, Modes, Name, Operand, Refusal, Statement,
+};
 use read_parts::{Part, Parts};
-use read_text::StatementAt;
 use tokens::Classes;
 
 // What is written of an entry of a list: its pair, its kind and its pair, or its count.
@@ -34,40 +35,15 @@ pub enum Entry {
     Count,
 }
 
-// How many numbers a statement has, or why there are none.
-#[derive(Clone, Copy)]
-pub enum NumbersAt {
-    Count(usize),
-    Refused(Refusal),
-}
-
-impl NumbersAt {
-    // Statement's word for programs in other languages.
-    pub fn word(self) -> u64
-        requires { Below (numbers_as self) }
-        ensures { result ≡ word (numbers_as self) }
-    {
-        match self {
-            NumbersAt::Count(n) => words::number_word(n),
-            NumbersAt::Refused(refusal) => words::refusal_word(refusal),
-        }
-    }
-}
-
 // One number, and the index behind it.
 pub fn put(out: &mut [u32], at: usize, number: usize) -> usize
     requires { Ready at (number ∷ []) }
     ensures { Written out.old at (number ∷ []) out.new result }
 {
-    let next = at + 1;
-    if out.len() <= at {
-        return next;
-    }
-    out[at] = number as u32;
-    next
+    print_writing::put(out, at, number as u32)
 }
 
-// One number and another.
+// One number and another. Two functions and no generic one: a loop over an array, with its invariant, would stand for two lines.
 fn put_two(out: &mut [u32], at: usize, first: usize, second: usize) -> usize
     requires { Ready at (first ∷ second ∷ []) }
     ensures { Written out.old at (first ∷ second ∷ []) out.new result }
@@ -288,30 +264,31 @@ pub fn put_parts(text: &[u8], classes: &Classes, parts: Parts, out: &mut [u32], 
 }
 
 // The numbers of a statement that was read: they are counted first, on none of the buffer.
-fn put_whole(text: &[u8], classes: &Classes, parts: Parts, out: &mut [u32]) -> NumbersAt
+fn put_whole(
+    text: &[u8],
+    classes: &Classes,
+    parts: Parts,
+    out: &mut [u32],
+) -> Result<usize, Refusal>
     requires { (classes.now ≡ class_table) × PartsFit text.now parts × Ready 0 (taken_in text.now parts) }
-    ensures { Answers (accepted (taken_in text.now parts)) out.old out.new (numbers_as result) }
+    ensures { Answers (accepted (taken_in text.now parts)) out.old out.new (answered same result) }
 {
     let room = out.len();
     let size = put_parts(text, classes, parts, &mut out[..0], 0);
     if room < size {
-        return NumbersAt::Refused(Refusal {
-            number: read_forms::TOO_SHORT,
+        return Err(Refusal {
+            fault: Fault::TooShort,
             place: 0,
         });
     }
-    NumbersAt::Count(put_parts(text, classes, parts, out, 0))
+    Ok(put_parts(text, classes, parts, out, 0))
 }
 
 // The numbers of the statement of a text at an index, or why there are none.
-pub fn numbers_under(text: &[u8], index: u32, limit: u32, out: &mut [u32]) -> NumbersAt
-    ensures { Answers (numbering limit text.now index) out.old out.new (numbers_as result) }
+pub fn numbers_under(text: &[u8], index: u32, limit: u32, out: &mut [u32]) -> Result<usize, Refusal>
+    ensures { Answers (numbering limit text.now index) out.old out.new (answered same result) }
 {
-    match read_text::statement_under(text, index as usize, limit) {
-        StatementAt::Statement(statement) => {
-            let classes = tokens::CLASSES;
-            put_whole(text, &classes, read_parts::parts_of(statement), out)
-        }
-        StatementAt::Refused(refusal) => NumbersAt::Refused(refusal),
-    }
+    let statement = read_text::statement_under(text, index as usize, limit)?;
+    let classes = tokens::CLASSES;
+    put_whole(text, &classes, read_parts::parts_of(statement), out)
 }

@@ -8,27 +8,26 @@ ghost use Rattle.labels.specs.Table.{label_table, keyword_table};
 ghost use Rattle.canonical.specs.Print.{print_text, length_of};
 ghost use Rattle.profiling.specs.Profile.{profile_text};
 ghost use Rattle.print_writing.specs.Written.{Written};
-ghost use Rattle.print_render.specs.Text.{printed_as};
+ghost use Rattle.read_forms.specs.Faults.{answered, same};
 ghost use Rattle.read_profile.specs.Answers.{profiled_as};
 ghost use Rattle.lines.specs.Line.{print_line, profile_line};
 
 use labels::{Keywords, Labels};
-use print_render::Printed;
-use read_profile::Profiled;
+use read_forms::Refusal;
 use tokens::Classes;
 
 // How many bytes there are to write, and what Print answered.
 #[derive(Clone, Copy)]
 pub struct PrintedLine {
     pub count: usize,
-    pub answer: Printed,
+    pub answer: Result<usize, Refusal>,
 }
 
 // How many bytes there are to write, and what the profile says.
 #[derive(Clone, Copy)]
 pub struct ProfiledLine {
     pub count: usize,
-    pub answer: Profiled,
+    pub answer: Result<(), Refusal>,
 }
 
 // The canonical text and a newline, or a refusal's line. No canonical text is longer than 16,384 bytes.
@@ -42,16 +41,16 @@ pub fn print_line(
 ) -> PrintedLine
     requires { (classes.now ≡ class_table) × (labels.now ≡ label_table) × (keys.now ≡ keyword_table) × (16384 ≤ length page.old) }
     ensures written { Written page.old 0 (print_line limit text.now) page.new result.count }
-    ensures answer_value { printed_as result.answer ≡ length_of (print_text limit text.now) }
+    ensures answer_value { answered same result.answer ≡ length_of (print_text limit text.now) }
 {
     match print_render::print_under(text, classes, labels, keys, page, limit) {
-        Printed::Length(length) => PrintedLine {
+        Ok(length) => PrintedLine {
             count: print_writing::put(page, length, b'\n'),
-            answer: Printed::Length(length),
+            answer: Ok(length),
         },
-        Printed::Refused(refusal) => PrintedLine {
+        Err(refusal) => PrintedLine {
             count: print_lines::put_refused(page, refusal),
-            answer: Printed::Refused(refusal),
+            answer: Err(refusal),
         },
     }
 }
@@ -62,13 +61,13 @@ pub fn profile_line(text: &[u8], page: &mut [u8], limit: u32) -> ProfiledLine
     ensures answer_value { profiled_as result.answer ≡ profile_text limit text.now }
 {
     match read_profile::profile_under(text, limit) {
-        Profiled::Fits => ProfiledLine {
+        Ok(()) => ProfiledLine {
             count: print_writing::put_all(page, 0, b"ok\n"),
-            answer: Profiled::Fits,
+            answer: Ok(()),
         },
-        Profiled::Refused(refusal) => ProfiledLine {
+        Err(refusal) => ProfiledLine {
             count: print_lines::put_refused(page, refusal),
-            answer: Profiled::Refused(refusal),
+            answer: Err(refusal),
         },
     }
 }

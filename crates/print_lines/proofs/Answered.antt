@@ -1,17 +1,16 @@
 -- What a call that fills an output says of its answer, where the output has room for it: the answer itself stands there, or nothing does.
 -- Assumes nothing.
 use mathlib.Core.Path.{◌≡◌, refl, ◌∙◌, ap, sym, subst}
-use mathlib.Core.Bool.{Bool, true, false, cond}
-use mathlib.Core.List.{List, ◌++◌}
+use mathlib.Core.List.{List}
 use Prim.Native.Nat.{ℕ, ◌≤◌}
 use native.Mathlib.Nat.{zero-add}
 use native.Mathlib.Omega.{arith}
 use borrow.Author.Tests.{le-ltb}
-use lib.ListN.{length, drop}
+use lib.ListN.{length}
 use Rattle.text.specs.Bytes.{bytes}
 use Rattle.reading.specs.Answer.{Answer, accepted, refused}
 use Rattle.canonical.specs.Print.{length_of, fitting, output, Answers}
-use Rattle.print_writing.specs.Written.{patch, Written}
+use Rattle.print_writing.specs.Written.{Written}
 use Rattle.print_writing.proofs.Writing.{patch_front, written_on}
 use Rattle.lines.specs.Line.{refusal_line, line_of}
 

@@ -1,6 +1,6 @@
 -- Lines of effects: how long they can be, and one more of them.
 -- Assumes nothing.
-use mathlib.Core.Path.{◌≡◌, refl, ◌∙◌, ap, sym}
+use mathlib.Core.Path.{◌≡◌, refl, ◌∙◌, ap}
 use mathlib.Core.Bool.{Bool, true, false, cond}
 use mathlib.Core.List.{List, [], ◌∷◌, ◌++◌, map, append-nil}
 use Prim.Native.Nat.{ℕ, zero, suc, ◌+◌, ◌*◌, ◌≤◌, ◌<◌}
@@ -11,21 +11,18 @@ use lib.Dec.{eqb, leb}
 use lib.ListN.{length, take, get_or, length-append, length-map, get_or-eq_default}
 use lib.Seq.{take-suc, length-take-le}
 use Rattle.text.specs.Bytes.{bytes}
-use Rattle.text.specs.Lists.{all, gather}
+use Rattle.text.specs.Lists.{gather}
 use Rattle.text.proofs.Appended.{map-append, gather_append}
-use Rattle.text.proofs.Passing.{all_at}
 use Rattle.labels.specs.declared.Family.TheVariants.{CovariateEffect}
 use Rattle.labels.specs.Label.{labels_of}
-use Rattle.resolving.specs.Context.{Context, covariates}
+use Rattle.resolving.specs.Context.{Context}
 use Rattle.resolving.specs.Effects.{Effect}
-use Rattle.resolving.specs.Handed.{pairs_at, handed_context}
+use Rattle.resolving.specs.Handed.{handed_context}
 use Rattle.resolve_context.specs.declared.Names.{Names}
 use Rattle.resolve_context.specs.declared.Layout.{Layout}
 use Rattle.resolve_context.specs.Lists.{Stands, Sound, pairs_in, names_in, covariates_of}
 use Rattle.resolve_context.proofs.Pairs.{length_pairs}
 use Rattle.resolve_context.proofs.Meaning.{parameters_sound, covariates_sound, parameters-are, covariates-are, sound_named}
-use Rattle.print_writing.specs.Written.{Room, Written}
-use Rattle.print_writing.proofs.Writing.{written_on}
 use Rattle.lines.specs.Effects.{operator_word, optional_word, form_words, effect_line, effect_lines}
 use Rattle.print_lines.specs.Given.{effect_in}
 

@@ -1,83 +1,58 @@
 -- Lines of notes: the line of an offset, parts of a text, why a statement is dropped, how long a line can be, and one more of them.
 -- Assumes nothing.
-use mathlib.Core.Path.{◌≡◌, refl, ◌∙◌, ap, sym, subst}
+use mathlib.Core.Path.{◌≡◌, refl, ◌∙◌, ap, sym}
 use mathlib.Core.Bool.{Bool, true, false, cond}
 use mathlib.Core.List.{List, [], ◌∷◌, ◌++◌, map, append-nil}
-use Prim.Native.Nat.{ℕ, zero, suc, ◌+◌, ◌*◌, ◌-◌, ◌≤◌, ◌<◌}
+use Prim.Native.Nat.{ℕ, zero, suc, ◌+◌, ◌-◌, ◌≤◌, ◌<◌, min}
 use native.Mathlib.Numerals.{add-one}
 use native.Mathlib.Omega.{arith}
-use borrow.Author.Tests.{lt-ltb, le-ltb, ltb-true, ltb-false, eq-eqb, ne_eqb}
-use lib.Dec.{eqb, ltb}
-use lib.ListN.{length, take, drop, get_or, length-append, length-map, length-drop, drop_of_length-le}
-use lib.Seq.{take-suc, take_all, length-take-le}
+use borrow.Author.Tests.{eq-eqb, ne_eqb}
+use lib.Dec.{eqb}
+use lib.ListN.{length, take, drop, get_or, length-append, length-drop}
+use lib.Seq.{take-suc, take_all}
+use Rattle.std.proofs.lemmas.List.{take_min, length-take}
 use Rattle.text.specs.Bytes.{bytes, is}
 use Rattle.text.specs.Lists.{keep, gather}
 use Rattle.text.proofs.Appended.{keep_append, map-append, gather_append}
-use Rattle.counts.specs.Decimal.{digits_of}
 use Rattle.labels.specs.Word.{same_word}
 use Rattle.resolving.specs.Resolve.{Note}
 use Rattle.lines.specs.Stretches.{Stretch, stretch_at, word_at, part, line_at}
 use Rattle.lines.specs.Notes.{reason_for, index_words, dropped_line, additive_line, note_line, note_lines_behind}
-use Rattle.print_lines.specs.Given.{note_in, reached_in, lines_behind}
+use Rattle.print_lines.specs.Given.{note_in}
 use Rattle.print_lines.proofs.Digits.{digits_few}
 
--- an offset, or the text's end
-pub reached_past : (s : List ℕ) (o : ℕ) → length s < o → reached_in s o ≡ length s
-reached_past s o h = rw (lt-ltb (length s) o h)
-
-pub reached_there : (s : List ℕ) (o : ℕ) → o ≤ length s → reached_in s o ≡ o
-reached_there s o h = rw (le-ltb (length s) o h)
-
-reached_either : (P : ℕ → Type 0) (s : List ℕ) (o : ℕ) → (length s < o → P (length s)) → (o ≤ length s → P o) → P (reached_in s o)
-reached_either P s o past there = by_test (ltb (length s) o) refl
-  where
-    by_test : (t : Bool) → ltb (length s) o ≡ t → P (cond t (length s) o)
-    by_test true e = past (ltb-true (length s) o e)
-    by_test false e = there (ltb-false (length s) o e)
-
-pub reached_within : (s : List ℕ) (o : ℕ) → reached_in s o ≤ length s
-reached_within s o = reached_either (λ r. r ≤ length s) s o (λ h. omega arith) (λ h. h)
-
-take_reached : (s : List ℕ) (o : ℕ) → take (reached_in s o) s ≡ take o s
-take_reached s o =
-    reached_either (λ r. take r s ≡ take o s) s o
-    (λ h. take_all (length s) s (omega arith) ∙ sym (take_all o s (omega arith)))
-    (λ h. refl)
-
-nothing : (n : ℕ) → ◌≡◌ {A = List ℕ} (take n []) []
-nothing zero = refl
-nothing (suc n) = refl
+no-bytes : (l : List ℕ) → length l ≤ 0 → l ≡ []
+no-bytes [] h = refl
+no-bytes (x ∷ xs) h = absurd (omega arith)
 
 -- the bytes from one offset to another, as far as there are any
-pub part_none : (s : List ℕ) (from to : ℕ) → reached_in s to ≤ from → part s from to ≡ []
+pub part_none : (s : List ℕ) (from to : ℕ) → min to (length s) ≤ from → part s from to ≡ []
 unfolding part
-part_none s from to = reached_either (λ r. r ≤ from → take (to - from) (drop from s) ≡ []) s to
-    (λ h l. let e : drop from s ≡ [] = drop_of_length-le s l in rw e (nothing (to - from)))
-    (λ h l. let e : to - from ≡ 0 = omega arith in rw e)
+part_none s from to h = no-bytes _ (omega (arith, length-take (to - from) (drop from s), length-drop from s))
 
-pub part_reached : (s : List ℕ) (from to : ℕ) → take (reached_in s to - from) (drop from s) ≡ part s from to
+pub part_reached : (s : List ℕ) (from to : ℕ) → take (min to (length s) - from) (drop from s) ≡ part s from to
 unfolding part
-part_reached s from to = reached_either (λ r. take (r - from) (drop from s) ≡ take (to - from) (drop from s)) s to
-    (λ h.
-    let l = length-drop from s in
-    take_all (length s - from) (drop from s) (omega arith) ∙ sym (take_all (to - from) (drop from s) (omega arith)))
-    (λ h. refl)
+part_reached s from to =
+    let e : min to (length s) - from ≡ min (to - from) (length (drop from s)) = omega (arith, length-drop from s) in
+    rw e (take_min (to - from) (drop from s))
 
 -- the line of an offset
 abbrev pub lines_to : List ℕ → ℕ → ℕ
 lines_to s i = suc (length (keep (is "\n") (take i s)))
 
-pub line-next : (s : List ℕ) (i : ℕ) → i < length s → lines_to s (i + 1) ≡ lines_behind (get_or s i 0) (lines_to s i)
-line-next s i h =
-    rw (add-one, take-suc s i 0 h, keep_append (is "\n") (take i s) (get_or s i 0 ∷ [])) (by_test (is "\n" (get_or s i 0)))
+pub line-next : (s : List ℕ) (i x : ℕ) → x ≡ get_or s i x → i < length s → lines_to s (i + 1) ≡ cond (is "\n" x) (lines_to s i + 1) (lines_to s i)
+line-next s i x e h =
+    rw (add-one, take-suc s i x h, sym e, keep_append (is "\n") (take i s) (x ∷ [])) (by_test (is "\n" x))
   where
-    by_test : (t : Bool) → suc (length (keep (is "\n") (take i s) ++ cond t (get_or s i 0 ∷ []) [])) ≡ cond t (lines_to s i + 1) (lines_to s i)
+    by_test : (t : Bool) → suc (length (keep (is "\n") (take i s) ++ cond t (x ∷ []) [])) ≡ cond t (lines_to s i + 1) (lines_to s i)
     by_test true = simp length-append (omega arith)
     by_test false = simp append-nil
 
-pub lines-all : (s : List ℕ) (o : ℕ) → lines_to s (reached_in s o) ≡ line_at s o
+pub lines-all : (s : List ℕ) (o : ℕ) → lines_to (take (min o (length s)) s) (length (take (min o (length s)) s)) ≡ line_at s o
 unfolding line_at
-lines-all s o = ap (λ (l : List ℕ). suc (length (keep (is "\n") l))) (take_reached s o)
+lines-all s o =
+    let t = take (min o (length s)) s in
+    ap (λ (l : List ℕ). suc (length (keep (is "\n") l))) (take_all (length t) t (omega arith) ∙ take_min o s)
 
 kept-few : (p : ℕ → Bool) (l : List ℕ) → length (keep p l) ≤ length l
 kept-few p [] = omega arith
@@ -88,12 +63,11 @@ kept-few p (x ∷ xs) = by_test (p x) (kept-few p xs)
     by_test false h = omega arith
 
 pub lines-few : (s : List ℕ) (i : ℕ) → i ≤ length s → lines_to s i ≤ i + 1
-lines-few s i h = omega (arith, kept-few (is "\n") (take i s), length-take-le i s h)
+lines-few s i h = omega (arith, kept-few (is "\n") (take i s), length-take i s)
 
 line_small : (s : List ℕ) (o : ℕ) → line_at s o ≤ length s + 1
-line_small s o =
-    let r = reached_within s o in
-    omega (arith, lines-few s (reached_in s o) r, lines-all s o)
+unfolding line_at
+line_small s o = omega (arith, kept-few (is "\n") (take o s), length-take o s)
 
 -- why a statement is dropped
 pub of_covariate : (k : List ℕ) → same_word k (bytes "COVARIATE") ≡ true

@@ -1,19 +1,15 @@
 -- Where statements stand, token by token: what each token does to the stretches that are left.
 -- Assumes nothing.
 use mathlib.Core.Path.{◌≡◌, refl, ◌∙◌, ap, sym}
-use mathlib.Core.Bool.{Bool, true, false, cond}
 use mathlib.Core.List.{List, [], ◌∷◌}
-use Prim.Native.Nat.{ℕ, zero, suc, ◌+◌, ◌≤◌}
+use Prim.Native.Nat.{ℕ, suc, ◌+◌, ◌≤◌}
 use native.Mathlib.Omega.{arith}
 use borrow.Author.Tests.{ne_eqb, eq-eqb}
-use lib.Dec.{eqb}
-use lib.ListN.{length, get_or}
-use Rattle.text.specs.Bytes.{is}
-use Rattle.tokens.specs.Token.{mark, word, number}
+use lib.ListN.{get_or}
+use Rattle.tokens.specs.Token.{mark}
 use Rattle.tokens.specs.declared.Token.{Token}
-use Rattle.tokens.proofs.Steps.{from, token, at_end}
-use Rattle.tokens.proofs.Views.{Reads, Known, a_word, a_number, a_mark, a_stray, the_end, known-mark}
-use Rattle.tokens.proofs.Views as views
+use Rattle.tokens.proofs.Steps.{token, at_end}
+use Rattle.tokens.proofs.Views.{Reads, Known, a_word, a_number, a_mark, a_stray, the_end}
 use Rattle.lines.specs.Stretches as lines
 use Rattle.lines.specs.Stretches.{stretch, before, within, stretches_from, stretches_of, stretch_at, word_in, word_at, part}
 use Rattle.print_lines.specs.Given.{stretches_before, stretches_in, ended_by}

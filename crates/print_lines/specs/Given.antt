@@ -1,6 +1,5 @@
 -- Effects, notes and stretches as code has them, as values of the definitions.
-use Rattle.std.specs.Prelude.{ℕ, ◌+◌, cond, List, [], ◌∷◌, eqb, ltb, length, drop, get_or}
-use Rattle.text.specs.Bytes.{is}
+use Rattle.std.specs.Prelude.{ℕ, ◌+◌, cond, List, [], ◌∷◌, eqb, drop, get_or}
 use Rattle.tokens.specs.declared.Token.{Token}
 use Rattle.tokens.specs.Lex.{tokens_at}
 use Rattle.resolving.specs.Effects.{Effect}
@@ -33,11 +32,3 @@ stretches_in s a o = stretches_from (within a) (tokens_at o (drop o s))
 -- what is left of them at the `)` of a statement that starts at an offset, or at what ends the text before there is one
 unfoldable pub ended_by : List ℕ → ℕ → Token → List lines.Stretch
 ended_by s a t = cond (eqb t.kind 41) (stretch a (t.start + 1) ∷ stretches_before s t.next.at) []
-
--- an offset, or the length of a text that ends before it
-abbrev pub reached_in : List ℕ → ℕ → ℕ
-reached_in s o = cond (ltb (length s) o) (length s) o
-
--- the line behind a byte
-abbrev pub lines_behind : ℕ → ℕ → ℕ
-lines_behind b line = cond (is "\n" b) (line + 1) line

@@ -1,46 +1,50 @@
 // The lines that programs write, put into a page: a refusal's, those of effects and those of notes.
 #![tactic(auto)]
 
-ghost use Rattle.std.specs.Prelude.{◌≡◌, true, [], ◌∷◌, ◌++◌, map, ℕ, ◌≤◌, length, take, get_or};
+ghost use Rattle.std.specs.Prelude.{◌≡◌, true, [], ◌∷◌, ◌++◌, map, ℕ, ◌≤◌, length, get_or};
 ghost use Rattle.tokens.specs.Class.{class_table};
 ghost use Rattle.counts.specs.Decimal.{digits_of};
 ghost use Rattle.labels.specs.Table.{label_table};
 ghost use Rattle.resolving.specs.Handed.{is_handed, handed_context};
 ghost use Rattle.resolve_context.specs.Lists.{Stands, Sound, names_in};
 ghost use Rattle.print_writing.specs.Written.{Room, Written};
+ghost use Rattle.read_forms.specs.Faults.{number_of};
 ghost use Rattle.lines.specs.Line.{refusal_line};
 ghost use Rattle.lines.specs.Effects.{operator_word, optional_word, form_words, effect_line, effect_lines};
 ghost use Rattle.lines.specs.Stretches.{stretch_at, word_at, part, line_at};
 ghost use Rattle.lines.specs.Notes.{reason_for, index_words, dropped_line, note_line, note_lines_behind};
-ghost use Rattle.print_lines.specs.Given.{effect_in, note_of, note_in, stretch_as, stretches_before, stretches_in, ended_by, reached_in, lines_behind};
+ghost use Rattle.print_lines.specs.Given.{effect_in, note_of, note_in, stretch_as, stretches_before, stretches_in, ended_by};
 ghost use Rattle.print_lines.specs.Asked.{Bounded, lines_in};
 
 use labels::{Family, Labels};
-use read_forms::Refusal;
+use read_forms::{Fault, Refusal};
 use resolve_context::{Layout, Names};
 use tokens::{Classes, Cursor, Token};
 
-// A number in decimal, the tens before the last digit, and the index behind it.
-pub fn put_number(out: &mut [u8], at: usize, n: usize) -> usize
-    requires { Room at (digits_of n) }
-    ensures { Written out.old at (digits_of n) out.new result }
+// The number of a fault.
+fn number_of(fault: Fault) -> usize
+    ensures { result ≡ number_of fault }
 {
-    if n < 10 {
-        return print_writing::put(out, at, b'0' + n as u8);
-    }
-    let next = put_number(out, at, n / 10);
-    print_writing::put(out, next, b'0' + (n % 10) as u8)
+    fault as usize
 }
 
 // `refused`, number and place with single spaces and a newline, from the page's start on.
-pub fn put_refused(page: &mut [u8], refusal: Refusal) -> usize
-    ensures { Written page.old 0 (refusal_line refusal.number refusal.place) page.new result }
+fn put_words(page: &mut [u8], number: usize, place: usize) -> usize
+    requires { number ≤ 255 }
+    ensures { Written page.old 0 (refusal_line number place) page.new result }
 {
     let a = print_writing::put_all(page, 0, b"refused ");
-    let b = put_number(page, a, refusal.number as usize);
+    let b = print_writing::put_number(page, a, number);
     let c = print_writing::put(page, b, b' ');
-    let d = put_number(page, c, refusal.place);
+    let d = print_writing::put_number(page, c, place);
     print_writing::put(page, d, b'\n')
+}
+
+// A refusal's line.
+pub fn put_refused(page: &mut [u8], refusal: Refusal) -> usize
+    ensures { Written page.old 0 (refusal_line (number_of refusal.fault) refusal.place) page.new result }
+{
+    put_words(page, number_of(refusal.fault), refusal.place)
 }
 
 // A name of a context; what is no entry of its list has no bytes.
@@ -87,10 +91,11 @@ fn put_form(labels: &Labels, effect: [u8; 5], out: &mut [u8], at: usize) -> usiz
     requires { (labels.now ≡ label_table) × Room at (form_words (effect_in effect)) }
     ensures { Written out.old at (form_words (effect_in effect)) out.new result }
 {
-    let form = labels::mode_label(labels, Family::CovariateEffect, effect[2] as usize);
-    let a = print_writing::put_all(out, at, form);
-    let b = put_operator(effect[3], out, a);
-    put_optional(effect[4], out, b)
+    let [_, _, form, operator, optional] = effect;
+    let label = labels::mode_label(labels, Family::CovariateEffect, form as usize);
+    let a = print_writing::put_all(out, at, label);
+    let b = put_operator(operator, out, a);
+    put_optional(optional, out, b)
 }
 
 // `CL WT lin * optional`.
@@ -108,34 +113,27 @@ fn put_effect(
     ensures { Written out.old at
         (effect_line (handed_context block.now lists.now) (effect_in effect)) out.new result }
 {
-    let a = put_name(block, lists, layout.parameters, effect[0] as usize, out, at);
+    let [parameter, covariate, _, _, _] = effect;
+    let a = put_name(block, lists, layout.parameters, parameter as usize, out, at);
     let b = print_writing::put(out, a, b' ');
     let covariates = resolve_context::covariates(layout);
-    let c = put_name(block, lists, covariates, effect[1] as usize, out, b);
+    let c = put_name(block, lists, covariates, covariate as usize, out, b);
     let d = print_writing::put(out, c, b' ');
     put_form(labels, effect, out, d)
 }
 
-// So many effects in the context that they are of, a line each, from the page's start on.
-pub fn put_effects(
-    block: &[u8],
-    lists: &[u32],
-    effects: &[[u8; 5]],
-    count: usize,
-    page: &mut [u8],
-) -> usize
-    requires { (is_handed block.now lists.now ≡ true) × (count ≤ 2048) × (count ≤ length effects.now) }
+// Effects in the context that they are of, a line each, from the page's start on. An effect is five bytes, as Resolve leaves it.
+pub fn put_effects(block: &[u8], lists: &[u32], effects: &[[u8; 5]], page: &mut [u8]) -> usize
+    requires { (is_handed block.now lists.now ≡ true) × (length effects.now ≤ 2048) }
     ensures { Written page.old 0
-        (effect_lines (handed_context block.now lists.now) (map effect_in (take count effects.now)))
+        (effect_lines (handed_context block.now lists.now) (map effect_in effects.now))
         page.new result }
 {
     let labels = labels::LABELS;
     let layout = resolve_context::read_layout(lists);
     let mut at = 0;
-    let mut i = 0;
-    while i < count {
-        at = put_effect(block, lists, layout, &labels, effects[i], page, at);
-        i += 1;
+    for effect in effects {
+        at = put_effect(block, lists, layout, &labels, *effect, page, at);
     }
     at
 }
@@ -152,15 +150,13 @@ fn first_from(text: &[u8], classes: &Classes, from: usize) -> Token
     requires { classes.now ≡ class_table }
     ensures { stretches_before text.now from ≡ stretches_in text.now result.start result.next.at }
 {
-    let mut at = from;
+    let mut cur = Cursor { at: from };
     loop {
-        let cur = Cursor { at };
         let token = cur.token(text, classes);
         if token.kind != b';' {
             return token;
         }
-        let next = token.next;
-        at = next.at;
+        cur = token.next;
     }
 }
 
@@ -170,25 +166,17 @@ fn closing_from(text: &[u8], classes: &Classes, from: usize) -> Token
     ensures by_index { (a : ℕ) → stretches_in text.now a from ≡ ended_by text.now a result }
     ensures start_in_bounds { result.kind ≡ 41 → result.start ≤ length text.now }
 {
-    let mut at = from;
+    let mut cur = Cursor { at: from };
     loop {
-        let cur = Cursor { at };
         let token = cur.token(text, classes);
-        if token.kind == b')' {
+        if token.kind == b')' || token.kind == tokens::BAD || token.kind == tokens::END {
             return token;
         }
-        if token.kind == tokens::BAD {
-            return token;
-        }
-        if token.kind == tokens::END {
-            return token;
-        }
-        let next = token.next;
-        at = next.at;
+        cur = token.next;
     }
 }
 
-// The statement at an index; what is none has no bytes.
+// The statement at an index; what is none has no bytes. The index is counted down by hand, as the turn that finds the last ends in a value.
 fn stretch_at(text: &[u8], classes: &Classes, index: usize) -> Stretch
     requires { (classes.now ≡ class_table) × (length text.now ≤ 16384) }
     ensures { stretch_as result ≡ stretch_at text.now index }
@@ -197,8 +185,7 @@ fn stretch_at(text: &[u8], classes: &Classes, index: usize) -> Stretch
     let mut left = index;
     loop {
         let first = first_from(text, classes, at);
-        let after = first.next;
-        let last = closing_from(text, classes, after.at);
+        let last = closing_from(text, classes, first.next.at);
         if last.kind != b')' {
             return Stretch { start: 0, end: 0 };
         }
@@ -208,21 +195,9 @@ fn stretch_at(text: &[u8], classes: &Classes, index: usize) -> Stretch
                 end: last.start + 1,
             };
         }
-        let next = last.next;
-        at = next.at;
+        at = last.next.at;
         left -= 1;
     }
-}
-
-// One line more behind a newline.
-fn line_behind(byte: u8, line: usize) -> usize
-    requires { line ≤ 16384 }
-    ensures { result ≡ lines_behind byte line }
-{
-    if byte == b'\n' {
-        return line + 1;
-    }
-    line
 }
 
 // The line of an offset, from 1.
@@ -230,31 +205,20 @@ fn line_at(text: &[u8], offset: usize) -> usize
     requires { length text.now ≤ 16384 }
     ensures { result ≡ line_at text.now offset }
 {
-    let end = reached(text, offset);
     let mut line = 1;
-    let mut i = 0;
-    while i < end {
-        line = line_behind(text[i], line);
-        i += 1;
+    for byte in &text[..offset.min(text.len())] {
+        if *byte == b'\n' {
+            line += 1;
+        }
     }
     line
-}
-
-// An offset, or the length of a text that ends before it.
-fn reached(text: &[u8], offset: usize) -> usize
-    ensures { result ≡ reached_in text.now offset }
-{
-    if text.len() < offset {
-        return text.len();
-    }
-    offset
 }
 
 // The bytes from one offset to another, as far as there are any.
 fn part_of(text: &[u8], from: usize, to: usize) -> &[u8]
     ensures { result.now ≡ part text.now from to }
 {
-    let end = reached(text, to);
+    let end = to.min(text.len());
     if end <= from {
         return &text[..0];
     }
@@ -266,13 +230,11 @@ fn word_at<'a>(text: &'a [u8], classes: &Classes, at: usize) -> &'a [u8]
     requires { classes.now ≡ class_table }
     ensures { result.now ≡ word_at text.now at }
 {
-    let cur = Cursor { at };
-    let token = cur.token(text, classes);
+    let token = Cursor { at }.token(text, classes);
     if token.kind != tokens::WORD {
         return &text[..0];
     }
-    let next = token.next;
-    part_of(text, token.start, next.at)
+    part_of(text, token.start, token.next.at)
 }
 
 // Why a statement is dropped, by its keyword.
@@ -308,9 +270,9 @@ fn put_index(text: &[u8], index: usize, start: usize, out: &mut [u8], at: usize)
 {
     let line = line_at(text, start);
     let a = print_writing::put_all(out, at, b"statement ");
-    let b = put_number(out, a, index);
+    let b = print_writing::put_number(out, a, index);
     let c = print_writing::put_all(out, b, b", line ");
-    let d = put_number(out, c, line);
+    let d = print_writing::put_number(out, c, line);
     print_writing::put_all(out, d, b": ")
 }
 
@@ -334,19 +296,12 @@ fn put_dropped(
     print_writing::put(out, c, b'\n')
 }
 
-// The index of a note's statement, which has one byte.
-fn index_of(note: [u8; 2]) -> usize
-    ensures { (result ≡ (note_in note).index) × (result ≤ 255) }
-{
-    note[1] as usize
-}
-
 // A note. That some effects are additive is said of no one statement.
 fn put_note(
     text: &[u8],
     classes: &Classes,
     reason: u8,
-    index: usize,
+    index: u8,
     out: &mut [u8],
     at: usize,
 ) -> usize
@@ -354,8 +309,8 @@ fn put_note(
     ensures { Written out.old at (note_line text.now (note_of reason index)) out.new result }
 {
     if reason == 0 {
-        let stretch = stretch_at(text, classes, index);
-        return put_dropped(text, classes, index, stretch, out, at);
+        let stretch = stretch_at(text, classes, index as usize);
+        return put_dropped(text, classes, index as usize, stretch, out, at);
     }
     print_writing::put_all(
         out,
@@ -364,42 +319,33 @@ fn put_note(
     )
 }
 
-// So many notes about a text, a line each, behind a word, from the page's start on.
-pub fn put_notes(
-    text: &[u8],
-    notes: &[[u8; 2]],
-    count: usize,
-    word: &[u8],
-    page: &mut [u8],
-) -> usize
-    requires { (length text.now ≤ 16384) × (count ≤ 257) × (count ≤ length notes.now) × (length word.now ≤ 100) }
+// Notes about a text, a line each, behind a word, from the page's start on.
+pub fn put_notes(text: &[u8], notes: &[[u8; 2]], word: &[u8], page: &mut [u8]) -> usize
+    requires { (length text.now ≤ 16384) × (length notes.now ≤ 257) × (length word.now ≤ 100) }
     ensures { Written page.old 0
-        (note_lines_behind word.now text.now (map note_in (take count notes.now)))
+        (note_lines_behind word.now text.now (map note_in notes.now))
         page.new result }
 {
     let classes = tokens::CLASSES;
     let mut at = 0;
-    let mut i = 0;
-    while i < count {
-        let note = notes[i];
-        let index = index_of(note);
+    for note in notes {
         let behind = print_writing::put_all(page, at, word);
-        at = put_note(text, &classes, note[0], index, page, behind);
-        i += 1;
+        let [reason, index] = *note;
+        at = put_note(text, &classes, reason, index, page, behind);
     }
     at
 }
 
 // A ground text and a newline, from the page's start on.
-pub fn put_ground(ground: &[u8], count: usize, page: &mut [u8]) -> usize
-    requires { (count ≤ 16384) × (count ≤ length ground.now) }
-    ensures { Written page.old 0 (take count ground.now ++ (10 ∷ [])) page.new result }
+pub fn put_ground(ground: &[u8], page: &mut [u8]) -> usize
+    requires { length ground.now ≤ 16384 }
+    ensures { Written page.old 0 (ground.now ++ (10 ∷ [])) page.new result }
 {
-    let a = print_writing::put_all(page, 0, &ground[..count]);
+    let a = print_writing::put_all(page, 0, ground);
     print_writing::put(page, a, b'\n')
 }
 
-// What is asked for of a text that resolves.
+// What is asked for of a text that resolves: what an argument or a request line says, so an enum and no closure.
 #[derive(Clone, Copy)]
 pub enum Asked {
     Ground,
@@ -407,15 +353,7 @@ pub enum Asked {
     Notes,
 }
 
-// How many bytes the ground text has, and how many effects and notes there are.
-#[derive(Clone, Copy)]
-pub struct Sizes {
-    pub ground: usize,
-    pub effects: usize,
-    pub notes: usize,
-}
-
-// What was asked for, of what stands in the outputs of Resolve, from the page's start on.
+// What was asked for, of what Resolve left in its outputs, from the page's start on.
 pub fn put_asked(
     asked: Asked,
     text: &[u8],
@@ -424,18 +362,17 @@ pub fn put_asked(
     ground: &[u8],
     effects: &[[u8; 5]],
     notes: &[[u8; 2]],
-    sizes: Sizes,
     page: &mut [u8],
 ) -> usize
-    requires { Bounded text.now block.now lists.now ground.now effects.now notes.now sizes }
+    requires { Bounded text.now block.now lists.now ground.now effects.now notes.now }
     ensures { Written page.old 0
         (lines_in asked text.now block.now lists.now
-        ground.now effects.now notes.now sizes)
+        ground.now effects.now notes.now)
         page.new result }
 {
     match asked {
-        Asked::Ground => put_ground(ground, sizes.ground, page),
-        Asked::Effects => put_effects(block, lists, effects, sizes.effects, page),
-        Asked::Notes => put_notes(text, notes, sizes.notes, b"", page),
+        Asked::Ground => put_ground(ground, page),
+        Asked::Effects => put_effects(block, lists, effects, page),
+        Asked::Notes => put_notes(text, notes, b"", page),
     }
 }

@@ -4,27 +4,53 @@
 ghost use Rattle.std.specs.Prelude.{◌≡◌, map, suc, length};
 ghost use Rattle.read_packs.specs.Packs.{places};
 ghost use Rattle.tokens.specs.Class.{class_table};
+ghost use Rattle.tokens.specs.Token.{Shape};
 ghost use Rattle.tokens.specs.Spelling.{spell, spell_all};
 ghost use Rattle.labels.specs.Table.{label_table};
-ghost use Rattle.reading.specs.Statement.{range, symbol};
-ghost use Rattle.canonical.specs.Canonical.{label_shape, item_shape, entry_shapes, bracketed, bare_one};
+ghost use Rattle.reading.specs.Statement.{Name as Word, range, symbol};
+ghost use Rattle.canonical.specs.Canonical.{label_shape, name_shape, item_shape, entry_shapes, bracketed, bare_one};
 ghost use Rattle.canonical.specs.Canonical.{modes_shapes, counts_shapes, operand_shapes};
 ghost use Rattle.read_forms.specs.Items.{name_in, items_in};
 ghost use Rattle.read_forms.specs.Forms.{modes_in, counts_in, operand_in};
 ghost use Rattle.read_forms.specs.Fits.{InText, Listed};
 ghost use Rattle.print_writing.specs.Written.{Room, Written};
 ghost use Rattle.read_parts.specs.Meaning.{OperandFits, CountsFit};
-ghost use Rattle.print_parts.specs.Parts.{shape_as, shapes_as, bare_as, list_as, behind_entry};
+ghost use Rattle.print_parts.specs.Parts.{number_shape, shapes_as, behind_entry};
 
 use labels::{Family, Labels};
 use read_forms::{Counts, Items, Modes, Name, Operand};
 use tokens::Classes;
 
-// What an entry of a list is printed as: the name as it is written, or its count.
-#[derive(Clone, Copy)]
-pub enum Entry {
-    Name,
-    Count,
+// How an entry of a list is printed.
+trait Entry {
+    // What it is printed as.
+    ghost shape: { Word → Shape };
+
+    fn put(text: &[u8], name: Name, out: &mut [u8], at: usize) -> usize
+        requires { InText text.now name × Room at (spell (shape (name_in text.now name))) }
+        ensures { Written out.old at (spell (shape (name_in text.now name))) out.new result };
+}
+
+// A name as it is written.
+struct Named;
+
+impl Entry for Named {
+    ghost shape = { name_shape };
+
+    fn put(text: &[u8], name: Name, out: &mut [u8], at: usize) -> usize {
+        put_name(text, name, out, at)
+    }
+}
+
+// A count without leading zeros.
+struct Counted;
+
+impl Entry for Counted {
+    ghost shape = { number_shape };
+
+    fn put(text: &[u8], name: Name, out: &mut [u8], at: usize) -> usize {
+        print_writing::put_number(out, at, read_lists::count_or_0(text, name) as usize)
+    }
 }
 
 // A name as it is written.
@@ -33,17 +59,6 @@ pub fn put_name(text: &[u8], name: Name, out: &mut [u8], at: usize) -> usize
     ensures { Written out.old at (name_in text.now name).spelling out.new result }
 {
     print_writing::put_all(out, at, read_forms::spelling(text, name))
-}
-
-// An entry of a list: a name, or a count without leading zeros.
-fn put_entry(text: &[u8], entry: Entry, name: Name, out: &mut [u8], at: usize) -> usize
-    requires { InText text.now name × Room at (spell (shape_as entry (name_in text.now name))) }
-    ensures { Written out.old at (spell (shape_as entry (name_in text.now name))) out.new result }
-{
-    match entry {
-        Entry::Name => put_name(text, name, out, at),
-        Entry::Count => print_writing::put_count(out, at, read_lists::count_or_0(text, name)),
-    }
 }
 
 // The `,` behind an entry of a list, unless it is the last.
@@ -58,82 +73,47 @@ pub fn put_comma(out: &mut [u8], at: usize, left: usize) -> usize
 }
 
 // The entries of a list, with a `,` between two.
-fn put_entries(
+fn put_entries<E: Entry>(
     text: &[u8],
     classes: &Classes,
-    entry: Entry,
     items: Items,
     out: &mut [u8],
     at: usize,
 ) -> usize
     requires { (classes.now ≡ class_table) × Listed text.now items
-        × Room at (spell_all (entry_shapes (shapes_as entry (items_in text.now items)))) }
+        × Room at (spell_all (entry_shapes (shapes_as E.shape (items_in text.now items)))) }
     ensures { Written out.old at
-        (spell_all (entry_shapes (shapes_as entry (items_in text.now items))))
+        (spell_all (entry_shapes (shapes_as E.shape (items_in text.now items))))
         out.new result }
 {
-    let mut left = items.count;
     let mut cur = items.first;
     let mut next = at;
-    while 0 < left {
+    for i in 0..items.count {
         let here = read_checks::entry_at(text, classes, cur);
-        next = put_entry(text, entry, here.name, out, next);
-        next = put_comma(out, next, left);
+        next = E::put(text, here.name, out, next);
+        next = put_comma(out, next, items.count - i);
         cur = read_checks::after_entry(text, classes, here);
-        left -= 1;
     }
     next
 }
 
 // A list in its brackets.
-fn put_bracketed(
+fn put_bracketed<E: Entry>(
     text: &[u8],
     classes: &Classes,
-    entry: Entry,
     items: Items,
     out: &mut [u8],
     at: usize,
 ) -> usize
     requires { (classes.now ≡ class_table) × Listed text.now items
-        × Room at (spell_all (bracketed (shapes_as entry (items_in text.now items)))) }
+        × Room at (spell_all (bracketed (shapes_as E.shape (items_in text.now items)))) }
     ensures { Written out.old at
-        (spell_all (bracketed (shapes_as entry (items_in text.now items))))
+        (spell_all (bracketed (shapes_as E.shape (items_in text.now items))))
         out.new result }
 {
     let first = print_writing::put(out, at, b'[');
-    let last = put_entries(text, classes, entry, items, out, first);
+    let last = put_entries::<E>(text, classes, items, out, first);
     print_writing::put(out, last, b']')
-}
-
-// Whether a list is printed without its brackets: one name, but never counts.
-fn is_bare(entry: Entry, count: usize) -> bool
-    ensures { result ≡ bare_as entry count }
-{
-    match entry {
-        Entry::Name => count == 1,
-        Entry::Count => false,
-    }
-}
-
-// A list: one name bare, all others in their brackets.
-fn put_list(
-    text: &[u8],
-    classes: &Classes,
-    entry: Entry,
-    items: Items,
-    out: &mut [u8],
-    at: usize,
-) -> usize
-    requires { (classes.now ≡ class_table) × Listed text.now items
-        × Room at (spell_all (list_as entry (shapes_as entry (items_in text.now items)))) }
-    ensures { Written out.old at
-        (spell_all (list_as entry (shapes_as entry (items_in text.now items))))
-        out.new result }
-{
-    if is_bare(entry, items.count) {
-        return put_entries(text, classes, entry, items, out, at);
-    }
-    put_bracketed(text, classes, entry, items, out, at)
 }
 
 // A list of names, bare if it is one name.
@@ -144,7 +124,10 @@ pub fn put_names(text: &[u8], classes: &Classes, items: Items, out: &mut [u8], a
         (spell_all (bare_one (map item_shape (items_in text.now items))))
         out.new result }
 {
-    put_list(text, classes, Entry::Name, items, out, at)
+    if items.count == 1 {
+        return put_entries::<Named>(text, classes, items, out, at);
+    }
+    put_bracketed::<Named>(text, classes, items, out, at)
 }
 
 // A range's two ends.
@@ -152,10 +135,10 @@ fn put_range(out: &mut [u8], at: usize, low: u32, high: u32) -> usize
     requires { Room at (spell_all (counts_shapes (range low high))) }
     ensures { Written out.old at (spell_all (counts_shapes (range low high))) out.new result }
 {
-    let first = print_writing::put_count(out, at, low);
+    let first = print_writing::put_number(out, at, low as usize);
     let second = print_writing::put(out, first, b'.');
     let third = print_writing::put(out, second, b'.');
-    print_writing::put_count(out, third, high)
+    print_writing::put_number(out, third, high as usize)
 }
 
 // Counts: a number, a range's two ends with `..` between them, or a list in its brackets.
@@ -171,9 +154,9 @@ pub fn put_counts(
     ensures { Written out.old at (spell_all (counts_shapes (counts_in text.now counts))) out.new result }
 {
     match counts {
-        Counts::Single(value) => print_writing::put_count(out, at, value),
+        Counts::Single(value) => print_writing::put_number(out, at, value as usize),
         Counts::Range(low, high) => put_range(out, at, low, high),
-        Counts::List(items) => put_list(text, classes, Entry::Count, items, out, at),
+        Counts::List(items) => put_bracketed::<Counted>(text, classes, items, out, at),
     }
 }
 

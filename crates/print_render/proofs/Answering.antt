@@ -12,14 +12,15 @@ use Rattle.canonical.specs.Print.{printed, print_text, Answers}
 use Rattle.print_writing.specs.Written.{Written}
 use Rattle.print_writing.proofs.Answering as filled
 use Rattle.read_forms.specs.declared.Refusal.{Refusal}
+use Rattle.read_forms.specs.Faults.{number_of, refused_by}
 
 -- a text that is refused
 pub refused_answers :
     (limit : ℕ) (s before : List ℕ) (r : Refusal)
-    → read_text limit s ≡ refused r.number r.place
-    → Answers (print_text limit s) before before (refused r.number r.place)
+    → read_text limit s ≡ refused_by r
+    → Answers (print_text limit s) before before (refused_by r)
 unfolding print_text
-refused_answers limit s before r e = filled.refused_answers before (print_text limit s) r.number r.place (ap printed e)
+refused_answers limit s before r e = filled.refused_answers before (print_text limit s) (number_of r.fault) r.place (ap printed e)
 
 module _ (limit : ℕ) (s before after : List ℕ) (ss : List Statement) (e : read_text limit s ≡ accepted ss) where
   it : print_text limit s ≡ accepted (canonical ss)

@@ -31,8 +31,8 @@ use Rattle.read_parts.proofs.Fitting.{statement-fits}
 use Rattle.print_writing.specs.Written.{Room, Written}
 use Rattle.print_writing.proofs.Going.{Going, going, told, further, no_more, room-first}
 use Rattle.read_forms.specs.declared.Refusal.{Refusal}
-use Rattle.print_render.specs.declared.Kept.{Kept}
-use Rattle.print_render.specs.declared.Kept.TheVariants.{Refused, More}
+use Rattle.std.specs.Prelude.{Option as Option·rust, Some, None, Result, Ok, Err}
+use Rattle.read_forms.specs.Faults.{refused_by}
 use Rattle.print_render.specs.Text.{KeptAs}
 use Rattle.canonical.specs.Lines.{piece_of, rest_of}
 use Rattle.canonical.proofs.Lines.{canonical_pieces}
@@ -109,12 +109,12 @@ module _ {limit : ℕ} {s before now : List ℕ} {forms : List form.Statement} {
       (no_more (told z g.gone))
 
 -- where nothing was printed, the buffer is as it was, and what is printed next is the answer
-module _ (limit : ℕ) (s before mid after : List ℕ) (g : KeptAs limit s before mid More) where
+module _ (limit : ℕ) (s before mid after : List ℕ) (g : KeptAs limit s before mid (Ok None)) where
   same_buffer : mid ≡ before
   unfolding KeptAs
   same_buffer = g
 
-  pub kept_next : (r : Kept) → KeptAs limit s mid after r → KeptAs limit s before after r
+  pub kept_next : (r : Result (Option·rust ℕ) Refusal) → KeptAs limit s mid after r → KeptAs limit s before after r
   kept_next r h = subst (λ (b : List ℕ). KeptAs limit s b after r) same_buffer h
 
   pub answers_next : (r : Answer ℕ) → Answers (print_text limit s) mid after r → Answers (print_text limit s) before after r
@@ -123,11 +123,11 @@ module _ (limit : ℕ) (s before mid after : List ℕ) (g : KeptAs limit s befor
 -- a refusal of the reading is the text's, once a byte that starts no token was looked for
 pub refused-next :
     (limit : ℕ) (s before after : List ℕ) (x r : Refusal)
-    → KeptAs limit s before after (Refused x)
+    → KeptAs limit s before after (Err x)
     → Admitted limit s
     → FirstFault s x r
-    → Answers (print_text limit s) before after (refused r.number r.place)
+    → Answers (print_text limit s) before after (refused_by r)
 unfolding KeptAs
 refused-next limit s before after x r g h f =
-    subst (λ (b : List ℕ). Answers (print_text limit s) before b (refused r.number r.place)) (sym g.1)
+    subst (λ (b : List ℕ). Answers (print_text limit s) before b (refused_by r)) (sym g.1)
     (refused_answers limit s before r (f limit h g.0))

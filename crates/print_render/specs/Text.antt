@@ -1,18 +1,16 @@
 -- A text's statements one after the other as they are printed, and what Print answers.
-use Rattle.std.specs.Prelude.{ℕ, zero, suc, List, [], ◌∷◌, ◌++◌, ◌≡◌, length}
+use Rattle.std.specs.Prelude.{Option, Some, None, Result, Ok, Err, ℕ, zero, suc, List, [], ◌∷◌, ◌++◌, ◌≡◌, length}
 use Prim.Native.Char.{code}
 use Rattle.tokens.specs.Spelling.{spell_all}
 use Rattle.reading.specs.Statement.{Statement}
-use Rattle.reading.specs.Answer.{Answer, accepted, refused}
+use Rattle.reading.specs.Answer.{accepted}
 use Rattle.canonical.specs.Canonical.{statement_shapes, canonical}
 use Rattle.canonical.specs.Print.{print_text, Answers}
 use Rattle.print_writing.specs.Written.{Written}
 use Rattle.reading.specs.Read.{between, read_text}
 use Rattle.read_statements.specs.Answers.{reading_at}
-use Rattle.print_render.specs.declared.Printed.{Printed}
-use Rattle.print_render.specs.declared.Printed.TheVariants.{Length, Refused}
-use Rattle.print_render.specs.declared.Kept.{Kept}
-use Rattle.print_render.specs.declared.Kept.TheVariants as kept
+use Rattle.read_forms.specs.declared.Refusal.{Refusal}
+use Rattle.read_forms.specs.Faults.{refused_by}
 
 -- a text that is read as statements
 pub record Accepted (limit : ℕ) (s : List ℕ) : Type 0 where
@@ -23,13 +21,8 @@ pub record Accepted (limit : ℕ) (s : List ℕ) : Type 0 where
 abbrev pub Prints : ℕ → List ℕ → List ℕ → List ℕ → ℕ → Type 0
 Prints limit s before after r = (ss : List Statement) → read_text limit s ≡ accepted ss → Written before 0 (canonical ss) after r
 
--- Print's answer: how many bytes the canonical text has, or the refusal
-abbrev pub printed_as : Printed → Answer ℕ
-printed_as (Length n) = accepted n
-printed_as (Refused r) = refused r.number r.place
-
--- The answer of printing with the forms kept: nothing is written but a canonical text.
-unfoldable pub KeptAs : ℕ → List ℕ → List ℕ → List ℕ → Kept → Type 0
-KeptAs limit s before after (kept.Length n) = Answers (print_text limit s) before after (accepted n)
-KeptAs limit s before after (kept.Refused r) = (reading_at limit s 0 between 0 ≡ refused r.number r.place) × (after ≡ before)
-KeptAs limit s before after kept.More = after ≡ before
+-- The answer of printing with the forms kept, of which there may be too many: nothing is written but a canonical text.
+unfoldable pub KeptAs : ℕ → List ℕ → List ℕ → List ℕ → Result (Option ℕ) Refusal → Type 0
+KeptAs limit s before after (Ok (Some n)) = Answers (print_text limit s) before after (accepted n)
+KeptAs limit s before after (Ok None) = after ≡ before
+KeptAs limit s before after (Err r) = (reading_at limit s 0 between 0 ≡ refused_by r) × (after ≡ before)

@@ -9,36 +9,14 @@ ghost use Rattle.canonical.specs.Print.{print_text, Answers};
 ghost use Rattle.read_parts.specs.Apart.{apart};
 ghost use Rattle.read_parts.specs.Meaning.{PartsFit};
 ghost use Rattle.print_writing.specs.Written.{Room, Written};
-ghost use Rattle.words.specs.Word.{word, Below};
-ghost use Rattle.print_render.specs.Text.{Accepted, Prints, printed_as, KeptAs};
+ghost use Rattle.read_forms.specs.Faults.{answered, same};
+ghost use Rattle.print_render.specs.Text.{Accepted, Prints, KeptAs};
 ghost use Rattle.canonical.specs.Lines.{piece_of, joint_of};
 ghost use Rattle.reading_laws.specs.Admitted.{Admitted};
 
 use labels::{Keywords, Labels};
-use read_forms::{Admission, Feature, Modes, Refusal, Statement};
-use read_statements::NextRead;
-use read_text::CountRead;
+use read_forms::{Fault, Feature, Modes, Refusal, Statement};
 use tokens::{Classes, Cursor};
-
-// How many bytes the canonical text has, or why there is none.
-#[derive(Clone, Copy)]
-pub enum Printed {
-    Length(usize),
-    Refused(Refusal),
-}
-
-impl Printed {
-    // Print's word for programs in other languages.
-    pub fn word(self) -> u64
-        requires { Below (printed_as self) }
-        ensures { result ≡ word (printed_as self) }
-    {
-        match self {
-            Printed::Length(n) => words::number_word(n),
-            Printed::Refused(refusal) => words::refusal_word(refusal),
-        }
-    }
-}
 
 // The canonical text of a text that is accepted, as far as the buffer has room, and its length.
 fn put_text(
@@ -57,13 +35,22 @@ fn put_text(
     let mut at = 0;
     loop {
         match read_statements::next_statement(text, classes, labels, keys, cur, n, limit) {
-            NextRead::Statement(form, next) => {
-                at = print_statements::put_next(text, classes, labels, keys, n, form, out, at);
-                cur = next;
+            Ok(Some(next)) => {
+                at = print_statements::put_next(
+                    text,
+                    classes,
+                    labels,
+                    keys,
+                    n,
+                    next.statement,
+                    out,
+                    at,
+                );
+                cur = next.cursor;
                 n += 1;
             }
-            NextRead::End => return at,
-            NextRead::Refused(_) => return at,
+            Ok(None) => return at,
+            Err(_) => return at,
         }
     }
 }
@@ -77,30 +64,21 @@ fn print_accepted(
     keys: &Keywords,
     out: &mut [u8],
     limit: u32,
-) -> Printed
+) -> Result<usize, Refusal>
     requires { (classes.now ≡ class_table) × (labels.now ≡ label_table) × (keys.now ≡ keyword_table) × Accepted limit text.now }
-    ensures { Answers (print_text limit text.now) out.old out.new (printed_as result) }
+    ensures { Answers (print_text limit text.now) out.old out.new (answered same result) }
 {
     if text.len() <= out.len() {
-        return Printed::Length(put_text(text, classes, labels, keys, out, limit));
+        return Ok(put_text(text, classes, labels, keys, out, limit));
     }
     let length = put_text(text, classes, labels, keys, &mut out[..0], limit);
     if out.len() < length {
-        return Printed::Refused(Refusal {
-            number: read_forms::TOO_SHORT,
+        return Err(Refusal {
+            fault: Fault::TooShort,
             place: 0,
         });
     }
-    Printed::Length(put_text(text, classes, labels, keys, out, limit))
-}
-
-// What printing a text comes to whose statements are kept as they are read: its canonical text's length, a refusal, or more statements than
-// there is room to keep.
-#[derive(Clone, Copy)]
-pub enum Kept {
-    Length(usize),
-    Refused(Refusal),
-    More,
+    Ok(put_text(text, classes, labels, keys, out, limit))
 }
 
 // A form that stands for none. All its bytes are zero, so that an array of it is made at once.
@@ -108,97 +86,46 @@ fn no_form() -> Statement {
     Statement::Feature(Feature::Absorption(Modes::Wildcard))
 }
 
-fn few_forms() -> [Statement; 32]
-    ensures { length result ≡ 32 }
+fn no_forms<const N: usize>() -> [Statement; N]
+    requires { N ≤ 256 }
+    ensures { length result ≡ N }
 {
-    [no_form(); 32]
+    [no_form(); N]
 }
 
-fn many_forms() -> [Statement; 256]
-    ensures { length result ≡ 256 }
-{
-    [no_form(); 256]
-}
-
-// The canonical text of a text of at most 32 statements, read once, in a buffer that is as long as the text. An array's length is a part of
-// its type, and a short text is not to pay for an array of 256: so there is this function and `print_many`, which differ in the array alone.
-fn print_few(
+// The canonical text of a text of at most N statements, read once, in a buffer that is as long as the text; none where there are more than the
+// array keeps. A short text is not to pay for an array of 256.
+fn print_within<const N: usize>(
     text: &[u8],
     classes: &Classes,
     labels: &Labels,
     keys: &Keywords,
     out: &mut [u8],
     limit: u32,
-) -> Kept
-    requires { (classes.now ≡ class_table) × (labels.now ≡ label_table) × (keys.now ≡ keyword_table) × Admitted limit text.now
+) -> Result<Option<usize>, Refusal>
+    requires tables { (classes.now ≡ class_table) × (labels.now ≡ label_table) × (keys.now ≡ keyword_table) × Admitted limit text.now
         × (length text.now ≤ length out.old) }
+    requires few { N ≤ 256 }
     ensures { KeptAs limit text.now out.old out.new result }
 {
-    let mut forms = few_forms();
+    let mut forms = no_forms::<N>();
     let mut n = 0;
     let mut cur = Cursor::new();
-    loop {
-        match read_statements::next_statement(text, classes, labels, keys, cur, n, limit) {
-            NextRead::Statement(form, after) => {
-                if 32 <= n {
-                    return Kept::More;
-                }
-                forms[n] = form;
-                cur = after;
-                n += 1;
-            }
-            NextRead::End => break,
-            NextRead::Refused(r) => return Kept::Refused(r),
+    while let Some(next) = read_statements::next_statement(
+        text, classes, labels, keys, cur, n, limit,
+    )? {
+        if N <= n {
+            return Ok(None);
         }
+        forms[n] = next.statement;
+        cur = next.cursor;
+        n += 1;
     }
-    let mut i = 0;
     let mut at = 0;
-    while i < n {
-        let form = forms[i];
-        at = print_statements::put_next(text, classes, labels, keys, i, form, out, at);
-        i += 1;
+    for i in 0..n {
+        at = print_statements::put_next(text, classes, labels, keys, i, forms[i], out, at);
     }
-    Kept::Length(at)
-}
-
-// The same for up to 256 statements, as many as a text may have.
-fn print_many(
-    text: &[u8],
-    classes: &Classes,
-    labels: &Labels,
-    keys: &Keywords,
-    out: &mut [u8],
-    limit: u32,
-) -> Kept
-    requires { (classes.now ≡ class_table) × (labels.now ≡ label_table) × (keys.now ≡ keyword_table) × Admitted limit text.now
-        × (length text.now ≤ length out.old) }
-    ensures { KeptAs limit text.now out.old out.new result }
-{
-    let mut forms = many_forms();
-    let mut count = 0;
-    let mut cur = Cursor::new();
-    loop {
-        match read_statements::next_statement(text, classes, labels, keys, cur, count, limit) {
-            NextRead::Statement(form, after) => {
-                if 256 <= count {
-                    return Kept::More;
-                }
-                forms[count] = form;
-                cur = after;
-                count += 1;
-            }
-            NextRead::End => break,
-            NextRead::Refused(r) => return Kept::Refused(r),
-        }
-    }
-    let mut i = 0;
-    let mut at = 0;
-    while i < count {
-        let form = forms[i];
-        at = print_statements::put_next(text, classes, labels, keys, i, form, out, at);
-        i += 1;
-    }
-    Kept::Length(at)
+    Ok(Some(at))
 }
 
 // The same, by the text's length: few short texts have more than 32 statements.
@@ -209,18 +136,17 @@ fn print_kept(
     keys: &Keywords,
     out: &mut [u8],
     limit: u32,
-) -> Kept
+) -> Result<Option<usize>, Refusal>
     requires { (classes.now ≡ class_table) × (labels.now ≡ label_table) × (keys.now ≡ keyword_table) × Admitted limit text.now
         × (length text.now ≤ length out.old) }
     ensures { KeptAs limit text.now out.old out.new result }
 {
     if 512 < text.len() {
-        return print_many(text, classes, labels, keys, out, limit);
+        return print_within::<256>(text, classes, labels, keys, out, limit);
     }
-    match print_few(text, classes, labels, keys, out, limit) {
-        Kept::Length(n) => Kept::Length(n),
-        Kept::Refused(r) => Kept::Refused(r),
-        Kept::More => print_many(text, classes, labels, keys, out, limit),
+    match print_within::<32>(text, classes, labels, keys, out, limit) {
+        Ok(None) => print_within::<256>(text, classes, labels, keys, out, limit),
+        kept => kept,
     }
 }
 
@@ -233,14 +159,12 @@ fn print_twice(
     keys: &Keywords,
     out: &mut [u8],
     limit: u32,
-) -> Printed
+) -> Result<usize, Refusal>
     requires { (classes.now ≡ class_table) × (labels.now ≡ label_table) × (keys.now ≡ keyword_table) }
-    ensures { Answers (print_text limit text.now) out.old out.new (printed_as result) }
+    ensures { Answers (print_text limit text.now) out.old out.new (answered same result) }
 {
-    match read_text::count_under(text, limit) {
-        CountRead::Refused(r) => Printed::Refused(r),
-        CountRead::Count(_) => print_accepted(text, classes, labels, keys, out, limit),
-    }
+    let _count = read_text::count_under(text, limit)?;
+    print_accepted(text, classes, labels, keys, out, limit)
 }
 
 // The canonical text of a text, or why it is refused. Nothing is written before it is known that the text is accepted and that the canonical
@@ -252,22 +176,17 @@ pub fn print_under(
     keys: &Keywords,
     out: &mut [u8],
     limit: u32,
-) -> Printed
+) -> Result<usize, Refusal>
     requires { (classes.now ≡ class_table) × (labels.now ≡ label_table) × (keys.now ≡ keyword_table) }
-    ensures { Answers (print_text limit text.now) out.old out.new (printed_as result) }
+    ensures { Answers (print_text limit text.now) out.old out.new (answered same result) }
 {
-    match read_forms::admit(text, limit) {
-        Admission::Refused(r) => {
-            return Printed::Refused(r);
-        }
-        Admission::Fine => {}
-    }
+    read_forms::admit(text, limit)?;
     if out.len() < text.len() {
         return print_twice(text, classes, labels, keys, out, limit);
     }
     match print_kept(text, classes, labels, keys, out, limit) {
-        Kept::Length(n) => Printed::Length(n),
-        Kept::Refused(r) => Printed::Refused(read_statements::earliest(text, classes, r)),
-        Kept::More => print_twice(text, classes, labels, keys, out, limit),
+        Ok(Some(n)) => Ok(n),
+        Ok(None) => print_twice(text, classes, labels, keys, out, limit),
+        Err(r) => Err(read_statements::earliest(text, classes, r)),
     }
 }

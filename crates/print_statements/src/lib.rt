@@ -19,44 +19,17 @@ use read_forms::{CovariateOp, Statement};
 use read_parts::{Part, Parts};
 use tokens::Classes;
 
-fn is_plus(op: CovariateOp) -> bool
-    ensures { result ≡ some_shapes (operator_shapes (op_as op)) }
-{
-    match op {
-        CovariateOp::Multiply => false,
-        CovariateOp::Add => true,
-    }
-}
-
 // Whether a part is printed at all.
 fn prints(part: Part) -> bool
     ensures { (s : List ℕ) → result ≡ some_shapes (shapes_in s part) }
 {
-    match part {
-        Part::Absent => false,
-        Part::Omitted => false,
-        Part::Op(op) => is_plus(op),
-        Part::Modes(_, _) => true,
-        Part::Counts(_) => true,
-        Part::N => true,
-        Part::Operand(_) => true,
-        Part::Name(_) => true,
-        Part::Values(_) => true,
-    }
+    !matches!(
+        part,
+        Part::Absent | Part::Omitted | Part::Op(CovariateOp::Multiply)
+    )
 }
 
-// Of the operators only `+`.
-fn put_operator(op: CovariateOp, out: &mut [u8], at: usize) -> usize
-    requires { Room at (spell_all (argument_shapes (operator_shapes (op_as op)))) }
-    ensures { Written out.old at (spell_all (argument_shapes (operator_shapes (op_as op)))) out.new result }
-{
-    match op {
-        CovariateOp::Multiply => at,
-        CovariateOp::Add => print_writing::put(out, at, b'+'),
-    }
-}
-
-// A part.
+// A part; of the operators only `+`.
 fn put_part(
     text: &[u8],
     classes: &Classes,
@@ -72,15 +45,14 @@ fn put_part(
         out.new result }
 {
     match part {
-        Part::Absent => at,
-        Part::Omitted => at,
+        Part::Absent | Part::Omitted | Part::Op(CovariateOp::Multiply) => at,
         Part::Modes(family, modes) => print_parts::put_modes(labels, family, modes, out, at),
         Part::Counts(counts) => print_parts::put_counts(text, classes, counts, out, at),
         Part::N => print_writing::put(out, at, b'N'),
         Part::Operand(operand) => print_parts::put_operand(text, classes, operand, out, at),
         Part::Name(name) => print_parts::put_name(text, name, out, at),
         Part::Values(items) => print_parts::put_names(text, classes, items, out, at),
-        Part::Op(op) => put_operator(op, out, at),
+        Part::Op(CovariateOp::Add) => print_writing::put(out, at, b'+'),
     }
 }
 
@@ -141,15 +113,11 @@ pub fn put_parts(
         × Room at (bytes_of text.now parts) }
     ensures { Written out.old at (bytes_of text.now parts) out.new result }
 {
-    let one = parts.first;
-    let two = parts.second;
-    let three = parts.third;
-    let four = parts.fourth;
     let inside = put_head(keys, parts.keyword, parts.optional, out, at);
-    let first = put_part(text, classes, labels, one, out, inside);
-    let second = put_also(text, classes, labels, two, out, first);
-    let third = put_also(text, classes, labels, three, out, second);
-    let last = put_also(text, classes, labels, four, out, third);
+    let first = put_part(text, classes, labels, parts.first, out, inside);
+    let second = put_also(text, classes, labels, parts.second, out, first);
+    let third = put_also(text, classes, labels, parts.third, out, second);
+    let last = put_also(text, classes, labels, parts.fourth, out, third);
     print_writing::put(out, last, b')')
 }
 

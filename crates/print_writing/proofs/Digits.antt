@@ -1,4 +1,4 @@
--- A count's digits, written: its only digit, or those of its tens and then its last.
+-- A number's digits, written: its only digit, or those of its tens and then its last.
 -- Assumes nothing.
 use mathlib.Core.Path.{ap}
 use mathlib.Core.List.{List, [], ◌∷◌}

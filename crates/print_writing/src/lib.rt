@@ -1,71 +1,69 @@
-// Bytes written into the caller's buffer. Two places write, and only where the buffer has room: `put` tests it for its byte, and `copy_all` is
-// called where it was tested for all bytes. On a buffer with no room the same calls tell how long an answer is.
+// Bytes, or elements of any type, written into the caller's buffer. Two places write, and only where the buffer has room: `put` tests it for its one,
+// and `copy_all` is called where it was tested for all of a slice. On a buffer with no room the same calls tell how long an answer is.
+// The buffer and the index travel apart. Tried as a struct over the lent buffer: each method would also have to promise that the same buffer is lent
+// still, or its caller knows nothing of what stands there in the end, and a byte put would load and store the index.
 #![tactic(auto)]
 
 ghost use Rattle.std.specs.Prelude.{◌+◌, ◌≤◌, ◌≡◌, [], ◌∷◌, length};
 ghost use Rattle.counts.specs.Decimal.{digits_of};
 ghost use Rattle.print_writing.specs.Written.{patch, Room, Written};
 
-// One byte, and the index behind it.
-pub fn put(out: &mut [u8], at: usize, byte: u8) -> usize
-    requires { Room at (byte ∷ []) }
-    ensures { Written out.old at (byte ∷ []) out.new result }
+// One element, and the index behind it.
+pub fn put<T: Copy>(out: &mut [T], at: usize, item: T) -> usize
+    requires { Room at (item ∷ []) }
+    ensures { Written out.old at (item ∷ []) out.new result }
 {
     let next = at + 1;
-    if out.len() <= at {
-        return next;
+    if at < out.len() {
+        out[at] = item;
     }
-    out[at] = byte;
     next
 }
 
-// All bytes of a slice into a buffer that has room for them.
-fn copy_all(out: &mut [u8], at: usize, bytes: &[u8])
-    requires { at + length bytes.now ≤ length out.old }
-    ensures { out.new ≡ patch at out.old bytes.now }
+// All elements of a slice into a buffer that has room for them. No `copy_from_slice`: it needs memmove of another library, and the library that C calls
+// needs memcpy and memset alone (include/dumachik.h).
+fn copy_all<T: Copy>(out: &mut [T], at: usize, items: &[T])
+    requires { at + length items.now ≤ length out.old }
+    ensures { out.new ≡ patch at out.old items.now }
 {
-    let mut i = 0;
-    while i < bytes.len() {
-        out[at + i] = bytes[i];
-        i += 1;
+    for (i, item) in items.iter().enumerate() {
+        out[at + i] = *item;
     }
 }
 
-// The bytes of a slice one by one, as far as there is room, and the index behind them all.
-fn put_each(out: &mut [u8], at: usize, bytes: &[u8]) -> usize
-    requires { Room at bytes.now }
-    ensures { Written out.old at bytes.now out.new result }
+// The elements of a slice one by one, as far as there is room, and the index behind them all.
+fn put_each<T: Copy>(out: &mut [T], at: usize, items: &[T]) -> usize
+    requires { Room at items.now }
+    ensures { Written out.old at items.now out.new result }
 {
     let mut next = at;
-    let mut done = 0;
-    while done < bytes.len() {
-        next = put(out, next, bytes[done]);
-        done += 1;
+    for item in items {
+        next = put(out, next, *item);
     }
     next
 }
 
-// All bytes of a slice, and the index behind them. Most often there is room for all, so the room is tested once and not for every byte.
-pub fn put_all(out: &mut [u8], at: usize, bytes: &[u8]) -> usize
-    requires { Room at bytes.now }
-    ensures { Written out.old at bytes.now out.new result }
+// All elements of a slice, and the index behind them. Most often there is room for all, so the room is tested once and not for every element.
+pub fn put_all<T: Copy>(out: &mut [T], at: usize, items: &[T]) -> usize
+    requires { Room at items.now }
+    ensures { Written out.old at items.now out.new result }
 {
-    let end = at + bytes.len();
+    let end = at + items.len();
     if end <= out.len() {
-        copy_all(out, at, bytes);
+        copy_all(out, at, items);
         return end;
     }
-    put_each(out, at, bytes)
+    put_each(out, at, items)
 }
 
-// A count's digits, the tens before the last, and the index behind them.
-pub fn put_count(out: &mut [u8], at: usize, n: u32) -> usize
+// A number in decimal, the tens before the last digit, and the index behind it.
+pub fn put_number(out: &mut [u8], at: usize, n: usize) -> usize
     requires { Room at (digits_of n) }
     ensures { Written out.old at (digits_of n) out.new result }
 {
     if n < 10 {
         return put(out, at, b'0' + n as u8);
     }
-    let next = put_count(out, at, n / 10);
+    let next = put_number(out, at, n / 10);
     put(out, next, b'0' + (n % 10) as u8)
 }

@@ -17,6 +17,8 @@ use Rattle.read_forms.specs.Items.{tokens_from, rest, an_entry, entry_as, entry_
 use Rattle.read_forms.proofs.Entries.{entries-ahead, listed-ahead, after_ahead}
 use Rattle.tokens.proofs.Steps.{token}
 use Rattle.tokens.proofs.Views.{Reads, Known, a_word, a_number, a_mark, a_stray, the_end}
+use Rattle.std.specs.Prelude.{Result, Ok, Err}
+use Rattle.read_forms.specs.declared.Refusal.{Refusal}
 use Rattle.read_arguments.specs.declared.Entry.{Entry}
 use Rattle.read_arguments.specs.declared.Entry.TheVariants as answer
 use Rattle.read_arguments.specs.Answers.{read_in, step_in, EntryFurther, EntryListed}
@@ -86,14 +88,14 @@ module _ {s : List ℕ} {o : ℕ} {t : lexer.Token} (here : EntryAt s o t) where
       ∙ ap (λ (x : Step). step_in limit s x t.next.at)
       (one_more limit c p t.start items here.shape here.entry (here.is_entry finish) ∙ picked _ _ _ (le-ltb (length items) 64 h))
 
-  pub entry-further : (ts : Tokens) (r : Entry) → EntryFurther s t.next.at ts r → EntryFurther s o ts r
+  pub entry-further : (ts : Tokens) (r : Result Entry Refusal) → EntryFurther s t.next.at ts r → EntryFurther s o ts r
   unfolding EntryFurther
-  entry-further ts (answer.More n) f = (omega (arith, here.reads.ahead, here.reads.wide, f.0), f.1, f.2)
-  entry-further ts (answer.Done n) f = (omega (arith, here.reads.ahead, here.reads.wide, f.0), f.1)
-  entry-further ts (answer.Refused r) f = f
+  entry-further ts (Ok (answer.More n)) f = (omega (arith, here.reads.ahead, here.reads.wide, f.0), f.1, f.2)
+  entry-further ts (Ok (answer.Done n)) f = (omega (arith, here.reads.ahead, here.reads.wide, f.0), f.1)
+  entry-further ts (Err r) f = f
 
-  pub entry_listed : (count : ℕ) (r : Entry) → count < 64 → EntryListed s o count r
+  pub entry_listed : (count : ℕ) (r : Result Entry Refusal) → count < 64 → EntryListed s o count r
   unfolding EntryListed
-  entry_listed count (answer.More n) h = (one-listed, h)
-  entry_listed count (answer.Done n) h = (one-listed, h)
-  entry_listed count (answer.Refused r) h = tt
+  entry_listed count (Ok (answer.More n)) h = (one-listed, h)
+  entry_listed count (Ok (answer.Done n)) h = (one-listed, h)
+  entry_listed count (Err r) h = tt

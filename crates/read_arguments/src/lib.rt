@@ -12,16 +12,14 @@ ghost use Rattle.read_forms.specs.Items.{tokens_from, name_in, entries, after_en
 ghost use Rattle.read_forms.specs.Fits.{InText, Stands};
 ghost use Rattle.read_arguments.specs.Answers.{read_in, step_in, refusal_of, name_of, arg_then, ArgFurther, entry_then, EntryFurther, EntryListed, after_then, AfterFurther};
 
-use counts::Counted;
-use read_forms::{Arg, Items, Name, Refusal};
+use read_forms::{Arg, Fault, Items, Name, Refusal};
 use tokens::{Classes, Cursor, Token};
 
-// An argument with the cursor after it; a `)` where one would start; or a refusal.
+// An argument with the cursor after it, or a `)` where one would start.
 #[derive(Clone, Copy)]
 pub enum ArgRead {
     Arg(Arg, Cursor),
     Close { at: usize, next: Cursor },
-    Refused(Refusal),
 }
 
 // What stands behind an entry of an array: a `,`, or the array's `]`.
@@ -29,7 +27,6 @@ pub enum ArgRead {
 pub enum Entry {
     More(Cursor),
     Done(Cursor),
-    Refused(Refusal),
 }
 
 // What stands behind an argument: a `,`, with its offset, or the `)`.
@@ -37,21 +34,20 @@ pub enum Entry {
 pub enum After {
     Comma { at: usize, next: Cursor },
     Close(Cursor),
-    Refused(Refusal),
 }
 
-// A token that is not allowed: 2 for a byte that starts none, and 3 for any other, the text's end too.
+// A token that is not allowed: a byte that starts none is one fault, and any other, the text's end too, another.
 pub fn unexpected(token: Token) -> Refusal
     ensures { result ≡ refusal_of token }
 {
     if token.kind == tokens::BAD {
         return Refusal {
-            number: read_forms::BAD_BYTE,
+            fault: Fault::BadByte,
             place: token.start,
         };
     }
     Refusal {
-        number: read_forms::UNEXPECTED,
+        fault: Fault::Unexpected,
         place: token.start,
     }
 }
@@ -68,7 +64,7 @@ pub fn named(token: Token) -> Name
 }
 
 // The name behind an `@` that stands at `sign`.
-fn symbol(text: &[u8], classes: &Classes, sign: usize, cur: Cursor) -> ArgRead
+fn symbol(text: &[u8], classes: &Classes, sign: usize, cur: Cursor) -> Result<ArgRead, Refusal>
     requires { classes.now ≡ class_table }
     ensures by_index { (limit : ℕ) (c : Call) → read_in limit text.now (at_sign c sign) cur.at ≡ arg_then limit text.now c result }
     ensures arg_further { ArgFurther text.now cur.at result }
@@ -76,50 +72,50 @@ fn symbol(text: &[u8], classes: &Classes, sign: usize, cur: Cursor) -> ArgRead
     let token = cur.token(text, classes);
     let next = token.next;
     if token.kind != tokens::WORD {
-        return ArgRead::Refused(unexpected(token));
+        return Err(unexpected(token));
     }
     let name = named(token);
-    ArgRead::Arg(Arg::Symbol { at: sign, name }, next)
+    Ok(ArgRead::Arg(Arg::Symbol { at: sign, name }, next))
 }
 
 // The two ends of a range: each a count, the left one judged first, and not backwards.
-fn range_of(text: &[u8], low: Name, high: Name, limit: u32, next: Cursor) -> ArgRead
+fn range_of(
+    text: &[u8],
+    low: Name,
+    high: Name,
+    limit: u32,
+    next: Cursor,
+) -> Result<ArgRead, Refusal>
     requires { InText text.now low × InText text.now high × (next.at ≤ length text.now) }
     ensures at_value { (c : Call)
         → step_in limit text.now (range_read c (range_of limit (name_in text.now low) (name_in text.now high))) next.at
         ≡ arg_then limit text.now c result }
     ensures arg_further { ArgFurther text.now next.at result }
 {
-    let Counted::Count(a) = read_forms::count_at(text, low, limit) else {
-        return ArgRead::Refused(Refusal {
-            number: read_forms::BAD_COUNT,
-            place: low.offset,
-        });
-    };
-    let Counted::Count(b) = read_forms::count_at(text, high, limit) else {
-        return ArgRead::Refused(Refusal {
-            number: read_forms::BAD_COUNT,
-            place: high.offset,
-        });
-    };
+    let a = read_forms::judge_count(text, low, limit)?;
+    let b = read_forms::judge_count(text, high, limit)?;
     if b < a {
-        return ArgRead::Refused(Refusal {
-            number: read_forms::BACKWARDS,
+        return Err(Refusal {
+            fault: Fault::Backwards,
             place: low.offset,
         });
     }
-    ArgRead::Arg(
-        Arg::Range {
-            at: low.offset,
-            low: a,
-            high: b,
-        },
-        next,
-    )
+    let range = Arg::Range {
+        at: low.offset,
+        low: a,
+        high: b,
+    };
+    Ok(ArgRead::Arg(range, next))
 }
 
 // A number, which a `..` and another may follow.
-fn number(text: &[u8], classes: &Classes, name: Name, cur: Cursor, limit: u32) -> ArgRead
+fn number(
+    text: &[u8],
+    classes: &Classes,
+    name: Name,
+    cur: Cursor,
+    limit: u32,
+) -> Result<ArgRead, Refusal>
     requires { (classes.now ≡ class_table) × Stands text.now a_number name × (cur.at ≤ length text.now) }
     ensures at_value { (c : Call) → read_in limit text.now (number_read c (name_in text.now name)) cur.at ≡ arg_then limit text.now c result }
     ensures arg_further { ArgFurther text.now cur.at result }
@@ -127,11 +123,11 @@ fn number(text: &[u8], classes: &Classes, name: Name, cur: Cursor, limit: u32) -
     let token = cur.token(text, classes);
     let next = token.next;
     if token.kind != b'.' {
-        return ArgRead::Arg(Arg::Number(name), cur);
+        return Ok(ArgRead::Arg(Arg::Number(name), cur));
     }
     let end = next.token(text, classes);
     if end.kind != tokens::NUMBER {
-        return ArgRead::Refused(unexpected(end));
+        return Err(unexpected(end));
     }
     let high = named(end);
     let after = end.next;
@@ -139,7 +135,7 @@ fn number(text: &[u8], classes: &Classes, name: Name, cur: Cursor, limit: u32) -
 }
 
 // What stands behind an entry of an array.
-fn after_entry(text: &[u8], classes: &Classes, cur: Cursor) -> Entry
+fn after_entry(text: &[u8], classes: &Classes, cur: Cursor) -> Result<Entry, Refusal>
     requires { classes.now ≡ class_table }
     ensures by_index { (limit : ℕ) (c : Call) (p : ℕ) (items : List Item)
         → read_in limit text.now (item_read c p items) cur.at ≡ entry_then limit text.now c p items result }
@@ -148,16 +144,16 @@ fn after_entry(text: &[u8], classes: &Classes, cur: Cursor) -> Entry
     let token = cur.token(text, classes);
     let next = token.next;
     if token.kind == b',' {
-        return Entry::More(next);
+        return Ok(Entry::More(next));
     }
     if token.kind == b']' {
-        return Entry::Done(next);
+        return Ok(Entry::Done(next));
     }
-    Entry::Refused(unexpected(token))
+    Err(unexpected(token))
 }
 
 // An entry of an array that has `count` before it, and what stands behind it.
-fn read_entry(text: &[u8], classes: &Classes, cur: Cursor, count: usize) -> Entry
+fn read_entry(text: &[u8], classes: &Classes, cur: Cursor, count: usize) -> Result<Entry, Refusal>
     requires { classes.now ≡ class_table }
     ensures by_index { (limit : ℕ) (c : Call) (p : ℕ) (items : List Item)
         → length items ≡ count
@@ -169,11 +165,11 @@ fn read_entry(text: &[u8], classes: &Classes, cur: Cursor, count: usize) -> Entr
     let token = cur.token(text, classes);
     let next = token.next;
     if tokens::NUMBER < token.kind {
-        return Entry::Refused(unexpected(token));
+        return Err(unexpected(token));
     }
     if 64 <= count {
-        return Entry::Refused(Refusal {
-            number: read_forms::TOO_MANY,
+        return Err(Refusal {
+            fault: Fault::TooMany,
             place: token.start,
         });
     }
@@ -181,7 +177,7 @@ fn read_entry(text: &[u8], classes: &Classes, cur: Cursor, count: usize) -> Entr
 }
 
 // An array whose `[` stands at `bracket`.
-fn array(text: &[u8], classes: &Classes, bracket: usize, cur: Cursor) -> ArgRead
+fn array(text: &[u8], classes: &Classes, bracket: usize, cur: Cursor) -> Result<ArgRead, Refusal>
     requires { classes.now ≡ class_table }
     ensures by_index { (limit : ℕ) (c : Call) → read_in limit text.now (array_open c bracket) cur.at ≡ arg_then limit text.now c result }
     ensures arg_further { ArgFurther text.now cur.at result }
@@ -189,42 +185,33 @@ fn array(text: &[u8], classes: &Classes, bracket: usize, cur: Cursor) -> ArgRead
     let token = cur.token(text, classes);
     let next = token.next;
     if token.kind == b']' {
-        return ArgRead::Arg(
-            Arg::Array {
-                at: bracket,
-                items: Items {
-                    first: cur,
-                    count: 0,
-                },
-            },
-            next,
-        );
+        let items = Items {
+            first: cur,
+            count: 0,
+        };
+        return Ok(ArgRead::Arg(Arg::Array { at: bracket, items }, next));
     }
     let mut n = 0;
     let mut from = cur;
     loop {
-        match read_entry(text, classes, from, n) {
+        match read_entry(text, classes, from, n)? {
             Entry::More(c) => {
                 from = c;
                 n += 1;
             }
             Entry::Done(c) => {
-                let count = n + 1;
-                return ArgRead::Arg(
-                    Arg::Array {
-                        at: bracket,
-                        items: Items { first: cur, count },
-                    },
-                    c,
-                );
+                let items = Items {
+                    first: cur,
+                    count: n + 1,
+                };
+                return Ok(ArgRead::Arg(Arg::Array { at: bracket, items }, c));
             }
-            Entry::Refused(r) => return ArgRead::Refused(r),
         }
     }
 }
 
 // One argument.
-pub fn argument(text: &[u8], classes: &Classes, cur: Cursor, limit: u32) -> ArgRead
+pub fn argument(text: &[u8], classes: &Classes, cur: Cursor, limit: u32) -> Result<ArgRead, Refusal>
     requires { classes.now ≡ class_table }
     ensures at_value { (c : Call) → read_in limit text.now (argument·state c) cur.at ≡ arg_then limit text.now c result }
     ensures arg_further { ArgFurther text.now cur.at result }
@@ -235,26 +222,26 @@ pub fn argument(text: &[u8], classes: &Classes, cur: Cursor, limit: u32) -> ArgR
     match kind {
         tokens::WORD => {
             let name = named(token);
-            ArgRead::Arg(Arg::Word(name), next)
+            Ok(ArgRead::Arg(Arg::Word(name), next))
         }
         tokens::NUMBER => {
             let name = named(token);
             number(text, classes, name, next, limit)
         }
-        b'*' => ArgRead::Arg(Arg::Star(token.start), next),
-        b'+' => ArgRead::Arg(Arg::Plus(token.start), next),
+        b'*' => Ok(ArgRead::Arg(Arg::Star(token.start), next)),
+        b'+' => Ok(ArgRead::Arg(Arg::Plus(token.start), next)),
         b'@' => symbol(text, classes, token.start, next),
         b'[' => array(text, classes, token.start, next),
-        b')' => ArgRead::Close {
+        b')' => Ok(ArgRead::Close {
             at: token.start,
             next,
-        },
-        _ => ArgRead::Refused(unexpected(token)),
+        }),
+        _ => Err(unexpected(token)),
     }
 }
 
 // What stands behind an argument.
-pub fn after_argument(text: &[u8], classes: &Classes, cur: Cursor) -> After
+pub fn after_argument(text: &[u8], classes: &Classes, cur: Cursor) -> Result<After, Refusal>
     requires { classes.now ≡ class_table }
     ensures by_index { (limit : ℕ) (c : Call) (a : Arg·spec)
         → read_in limit text.now (argument_read c a) cur.at ≡ after_then limit text.now c a result }
@@ -263,13 +250,13 @@ pub fn after_argument(text: &[u8], classes: &Classes, cur: Cursor) -> After
     let token = cur.token(text, classes);
     let next = token.next;
     if token.kind == b',' {
-        return After::Comma {
+        return Ok(After::Comma {
             at: token.start,
             next,
-        };
+        });
     }
     if token.kind == b')' {
-        return After::Close(next);
+        return Ok(After::Close(next));
     }
-    After::Refused(unexpected(token))
+    Err(unexpected(token))
 }

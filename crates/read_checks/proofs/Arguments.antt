@@ -1,5 +1,6 @@
 -- Arguments whose entries stay in the text: a word or a number alone is a list of one entry, and an array is a list that may be empty.
 -- Assumes nothing.
+use Rattle.std.specs.Prelude.{Option, Some, None}
 use mathlib.Core.Path.{◌≡◌, refl, ◌∙◌, sym}
 use mathlib.Core.Bool.{Bool, true, false, cond, and-true}
 use mathlib.Core.List.{List, [], ◌∷◌, map}
@@ -11,21 +12,17 @@ use lib.Seq.{drop-cons, length-take-le}
 use borrow.Author.Tests.{leb-true, ne_eqb}
 use Rattle.text.specs.Bytes.{bytes, between}
 use Rattle.labels.specs.declared.Family.{Family}
-use Rattle.labels.specs.declared.Found.{Found}
-use Rattle.labels.specs.declared.Found.TheVariants.{Place, Nothing}
 use Rattle.labels.specs.Word.{lower, same_word, find}
 use Rattle.labels.specs.Label.{labels_of}
 use Rattle.labels.specs.Table.{found_as}
 use Rattle.labels.proofs.Words.{halves, lengths_differ}
 use Rattle.reading.specs.Statement.{a_word, Item, counts, names}
 use Rattle.reading.specs.Answer.{accepted, refused, ◌>>=◌}
-use Rattle.reading.specs.Argument.{firsts, lone_mode, count_list, modes_of, counts_of, operand_of, items_of, array}
+use Rattle.reading.specs.Argument.{lone_mode, count_list, modes_of, counts_of, operand_of, items_of, array}
 use Rattle.read_forms.specs.declared.Name as forms
 use Rattle.read_forms.specs.declared.Modes.TheVariants as formModes
 use Rattle.read_forms.specs.Items.{name_in}
 use Rattle.read_forms.specs.Forms.{modes_in}
-use Rattle.read_forms.specs.Fits.{Stands}
-use Rattle.read_forms.proofs.Lists.{stands_one}
 use Rattle.read_checks.specs.Answers.{modes_listed}
 use Rattle.read_packs.proofs.Packed.{no_place, alone}
 use Rattle.read_checks.proofs.Judging.{found_some, found_none}
@@ -33,18 +30,18 @@ use Rattle.read_checks.proofs.Modes.{found-small}
 
 -- a word alone as a mode: it is looked up, and stands alone in its number
 module _ (f : Family) (s : List ℕ) (n : forms.Name) where
-  abbrev Looked : Found → Type 0
+  abbrev Looked : Option ℕ → Type 0
   Looked r = r ≡ found_as (find (name_in s n).spelling (labels_of f))
 
   pub lone_found :
-      (m : ℕ) → Looked (Place m) → accepted (modes_in (formModes.List (m + 1))) ≡ lone_mode f a_word (name_in s n)
+      (m : ℕ) → Looked (Some m) → accepted (modes_in (formModes.List (m + 1))) ≡ lone_mode f a_word (name_in s n)
   unfolding modes_in
   lone_found m e =
       let g = found_some (find (name_in s n).spelling (labels_of f)) m e in
       let h = found-small f (name_in s n).spelling m g in
       rw (g, (alone 0 m refl (omega arith)).all, no_place 0 refl)
 
-  pub lone_unknown : Looked Nothing → refused 10 n.offset ≡ lone_mode f a_word (name_in s n)
+  pub lone_unknown : Looked None → refused 10 n.offset ≡ lone_mode f a_word (name_in s n)
   lone_unknown e = rw (found_none (find (name_in s n).spelling (labels_of f)) e)
 
 module _ (f : Family) where

@@ -2,7 +2,7 @@
 -- Assumes nothing.
 use mathlib.Core.Path.{◌≡◌, refl, ◌∙◌, ap, sym}
 use mathlib.Core.Bool.{true, false≢true}
-use mathlib.Core.List.{List, [], ◌∷◌}
+use mathlib.Core.List.{List, []}
 use Prim.Native.Nat.{ℕ, ◌-◌, ◌≤◌}
 use native.Mathlib.Omega.{arith}
 use lib.ListN.{length}
@@ -14,7 +14,7 @@ use Rattle.tokens.specs.Next.{first, by_kind, token_at}
 use Rattle.tokens.proofs.Steps.{token, at_end}
 use Rattle.tokens.proofs.Views.{Reads, Tells, told, Known, a_word, a_number, a_mark, a_stray, the_end, known}
 use Rattle.read_forms.specs.declared.Items.{Items}
-use Rattle.read_forms.specs.Items.{tokens_from, rest, an_entry, entry_as, entry_ahead, Entered, entries, items_in, listed}
+use Rattle.read_forms.specs.Items.{tokens_from, rest, an_entry, entry_as, entry_ahead, items_in, listed}
 use Rattle.read_forms.specs.Fits.{Listed}
 use Rattle.read_forms.proofs.Entries.{entries-length}
 use Rattle.read_forms.proofs.Lists.{items_are}

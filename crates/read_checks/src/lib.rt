@@ -14,57 +14,15 @@ ghost use Rattle.reading.specs.Statement.{a_word, a_number};
 ghost use Rattle.reading.specs.Argument.{array, place_of, lone_mode, lone_count, count_list, modes_of, counts_of, operand_of, items_of};
 ghost use Rattle.reading.specs.Feature.{is_n, operator_of, name_of};
 ghost use Rattle.read_forms.specs.Items.{tokens_from, name_in, items_in, listed};
-ghost use Rattle.read_forms.specs.Forms.{arg_in, values_in};
+ghost use Rattle.read_forms.specs.Forms.{arg_in, values_in, modes_in, counts_in, operand_in, op_as};
 ghost use Rattle.read_forms.specs.Fits.{InText, Listed, Stands, Fits};
-ghost use Rattle.read_checks.specs.Answers.{checked_as, modes_as, counts_as, operand_as, items_as, name_as, op_read_as, NextEntry, goes_on, kind_of, of_word, modes_listed};
+ghost use Rattle.read_forms.specs.declared.Fault.TheVariants.{WrongArgument};
+ghost use Rattle.read_forms.specs.Faults.{answered};
+ghost use Rattle.read_checks.specs.Answers.{NextEntry, goes_on, kind_of, of_word, modes_listed};
 
-use counts::Counted;
-use labels::{Family, Found, Labels};
-use read_forms::{Arg, Counts, CovariateOp, Items, Kind, Modes, Name, Operand, Refusal};
+use labels::{Family, Labels};
+use read_forms::{Arg, Counts, CovariateOp, Fault, Items, Kind, Modes, Name, Operand, Refusal};
 use tokens::{Classes, Cursor};
-
-// Whether all entries of a list are in order.
-#[derive(Clone, Copy)]
-pub enum Checked {
-    Fine,
-    Refused(Refusal),
-}
-
-#[derive(Clone, Copy)]
-pub enum ModesRead {
-    Modes(Modes),
-    Refused(Refusal),
-}
-
-#[derive(Clone, Copy)]
-pub enum CountsRead {
-    Counts(Counts),
-    Refused(Refusal),
-}
-
-#[derive(Clone, Copy)]
-pub enum OperandRead {
-    Operand(Operand),
-    Refused(Refusal),
-}
-
-#[derive(Clone, Copy)]
-pub enum ItemsRead {
-    Items(Items),
-    Refused(Refusal),
-}
-
-#[derive(Clone, Copy)]
-pub enum NameRead {
-    Name(Name),
-    Refused(Refusal),
-}
-
-#[derive(Clone, Copy)]
-pub enum OpRead {
-    Op(CovariateOp),
-    Refused(Refusal),
-}
 
 // An entry of a list: what it is, its name, and the cursor behind it.
 #[derive(Clone, Copy)]
@@ -124,13 +82,11 @@ pub fn after_entry(text: &[u8], classes: &Classes, entry: Entry) -> Cursor
 }
 
 // A name's bytes looked up in a family.
-pub fn mode_at(text: &[u8], labels: &Labels, family: Family, name: Name) -> Found
+pub fn mode_at(text: &[u8], labels: &Labels, family: Family, name: Name) -> Option<usize>
     requires { (labels.now ≡ label_table) × InText text.now name }
     ensures { result ≡ found_as (find (name_in text.now name).spelling (labels_of family)) }
 {
-    let start = name.offset;
-    let end = start + name.length;
-    labels::find_mode(labels, family, &text[start..end])
+    labels::find_mode(labels, family, read_forms::spelling(text, name))
 }
 
 // A list as modes of a family, each once.
@@ -140,39 +96,33 @@ fn listed_modes(
     labels: &Labels,
     family: Family,
     items: Items,
-) -> ModesRead
+) -> Result<Modes, Refusal>
     requires { (classes.now ≡ class_table) × (labels.now ≡ label_table) × Listed text.now items }
-    ensures { modes_as result ≡ modes_listed family (items_in text.now items) }
+    ensures { answered modes_in result ≡ modes_listed family (items_in text.now items) }
 {
-    let mut left = items.count;
     let mut cur = items.first;
     let mut packed = 0;
-    while 0 < left {
+    for _done in 0..items.count {
         let entry = entry_at(text, classes, cur);
         let name = entry.name;
-        match mode_at(text, labels, family, name) {
-            Found::Nothing => {
-                return ModesRead::Refused(Refusal {
-                    number: read_forms::UNKNOWN_MODE,
-                    place: name.offset,
-                });
-            }
-            Found::Place(place) => {
-                packed = read_packs::with_place(packed, place as u32);
-                cur = after_entry(text, classes, entry);
-                left -= 1;
-            }
-        }
+        let Some(place) = mode_at(text, labels, family, name) else {
+            return Err(Refusal {
+                fault: Fault::UnknownMode,
+                place: name.offset,
+            });
+        };
+        packed = read_packs::with_place(packed, place as u32);
+        cur = after_entry(text, classes, entry);
     }
-    ModesRead::Modes(Modes::List(packed))
+    Ok(Modes::List(packed))
 }
 
 // An argument of a wrong kind, refused at its offset.
 fn wrong(at: usize) -> Refusal
-    ensures { result ≡ record { number = 9; place = at } }
+    ensures { result ≡ record { fault = WrongArgument; place = at } }
 {
     Refusal {
-        number: read_forms::WRONG_ARGUMENT,
+        fault: Fault::WrongArgument,
         place: at,
     }
 }
@@ -203,106 +153,98 @@ pub fn modes_of(
     labels: &Labels,
     family: Family,
     arg: Arg,
-) -> ModesRead
+) -> Result<Modes, Refusal>
     requires { (classes.now ≡ class_table) × (labels.now ≡ label_table) × Fits text.now arg }
-    ensures { modes_as result ≡ modes_of family (arg_in text.now arg) }
+    ensures { answered modes_in result ≡ modes_of family (arg_in text.now arg) }
 {
     match arg {
-        Arg::Star(_) => ModesRead::Modes(Modes::Wildcard),
+        Arg::Star(_) => Ok(Modes::Wildcard),
         Arg::Word(name) => lone_mode(text, labels, family, name),
         Arg::Array { at, items } => {
             if items.count == 0 {
-                return ModesRead::Refused(wrong(at));
+                return Err(wrong(at));
             }
             listed_modes(text, classes, labels, family, items)
         }
-        _ => ModesRead::Refused(wrong(place_of(arg))),
+        _ => Err(wrong(place_of(arg))),
     }
 }
 
 // A word alone as a mode of a family: it is looked up as it stands.
-fn lone_mode(text: &[u8], labels: &Labels, family: Family, name: Name) -> ModesRead
+fn lone_mode(text: &[u8], labels: &Labels, family: Family, name: Name) -> Result<Modes, Refusal>
     requires { (labels.now ≡ label_table) × InText text.now name }
-    ensures { modes_as result ≡ lone_mode family a_word (name_in text.now name) }
+    ensures { answered modes_in result ≡ lone_mode family a_word (name_in text.now name) }
 {
-    match mode_at(text, labels, family, name) {
-        Found::Place(place) => ModesRead::Modes(Modes::List(place as u32 + 1)),
-        Found::Nothing => ModesRead::Refused(Refusal {
-            number: read_forms::UNKNOWN_MODE,
+    let Some(place) = mode_at(text, labels, family, name) else {
+        return Err(Refusal {
+            fault: Fault::UnknownMode,
             place: name.offset,
-        }),
-    }
+        });
+    };
+    Ok(Modes::List(place as u32 + 1))
 }
 
-// Whether each entry of the array at `at` is a count.
-fn check_counts(text: &[u8], classes: &Classes, at: usize, items: Items, limit: u32) -> Checked
+// Whether each entry of the array whose `[` stands at `bracket` is a count.
+fn check_counts(
+    text: &[u8],
+    classes: &Classes,
+    bracket: usize,
+    items: Items,
+    limit: u32,
+) -> Result<(), Refusal>
     requires { (classes.now ≡ class_table) × Listed text.now items }
-    ensures { count_list limit at (items_in text.now items) ≡ checked_as (values_in (items_in text.now items)) result }
+    ensures { answered (λ (_ : Unit). values_in (items_in text.now items)) result ≡ count_list limit bracket (items_in text.now items) }
 {
-    let mut left = items.count;
     let mut cur = items.first;
-    while 0 < left {
+    for _done in 0..items.count {
         let entry = entry_at(text, classes, cur);
-        let kind = entry.kind;
-        if is_word(kind) {
-            return Checked::Refused(wrong(at));
+        if is_word(entry.kind) {
+            return Err(wrong(bracket));
         }
-        let name = entry.name;
-        match read_forms::count_at(text, name, limit) {
-            Counted::Refused => {
-                return Checked::Refused(Refusal {
-                    number: read_forms::BAD_COUNT,
-                    place: name.offset,
-                });
-            }
-            Counted::Count(_) => {
-                cur = after_entry(text, classes, entry);
-                left -= 1;
-            }
-        }
+        read_forms::judge_count(text, entry.name, limit)?;
+        cur = after_entry(text, classes, entry);
     }
-    Checked::Fine
+    Ok(())
 }
 
 // An argument as counts: a number, a range, or an array of numbers that is not empty.
-pub fn counts_of(text: &[u8], classes: &Classes, arg: Arg, limit: u32) -> CountsRead
+pub fn counts_of(text: &[u8], classes: &Classes, arg: Arg, limit: u32) -> Result<Counts, Refusal>
     requires { (classes.now ≡ class_table) × Fits text.now arg }
-    ensures { counts_as text.now result ≡ counts_of limit (arg_in text.now arg) }
+    ensures { answered (counts_in text.now) result ≡ counts_of limit (arg_in text.now arg) }
 {
     match arg {
         Arg::Number(name) => lone_count(text, name, limit),
-        Arg::Range { at: _, low, high } => CountsRead::Counts(Counts::Range(low, high)),
+        Arg::Range { at: _, low, high } => Ok(Counts::Range(low, high)),
         Arg::Array { at, items } => listed_counts(text, classes, at, items, limit),
-        _ => CountsRead::Refused(wrong(place_of(arg))),
+        _ => Err(wrong(place_of(arg))),
     }
 }
 
 // A number alone as a count.
-fn lone_count(text: &[u8], name: Name, limit: u32) -> CountsRead
+fn lone_count(text: &[u8], name: Name, limit: u32) -> Result<Counts, Refusal>
     requires { InText text.now name }
-    ensures { counts_as text.now result ≡ lone_count limit a_number (name_in text.now name) }
+    ensures { answered (counts_in text.now) result ≡ lone_count limit a_number (name_in text.now name) }
 {
-    match read_forms::count_at(text, name, limit) {
-        Counted::Count(value) => CountsRead::Counts(Counts::Single(value)),
-        Counted::Refused => CountsRead::Refused(Refusal {
-            number: read_forms::BAD_COUNT,
-            place: name.offset,
-        }),
-    }
+    let value = read_forms::judge_count(text, name, limit)?;
+    Ok(Counts::Single(value))
 }
 
 // An array as counts.
-fn listed_counts(text: &[u8], classes: &Classes, at: usize, items: Items, limit: u32) -> CountsRead
+fn listed_counts(
+    text: &[u8],
+    classes: &Classes,
+    at: usize,
+    items: Items,
+    limit: u32,
+) -> Result<Counts, Refusal>
     requires { (classes.now ≡ class_table) × Listed text.now items }
-    ensures { counts_as text.now result ≡ counts_of limit (array at (items_in text.now items)) }
+    ensures { answered (counts_in text.now) result ≡ counts_of limit (array at (items_in text.now items)) }
 {
     if items.count == 0 {
-        return CountsRead::Refused(wrong(at));
+        return Err(wrong(at));
     }
-    match check_counts(text, classes, at, items, limit) {
-        Checked::Fine => CountsRead::Counts(Counts::List(items)),
-        Checked::Refused(r) => CountsRead::Refused(r),
-    }
+    check_counts(text, classes, at, items, limit)?;
+    Ok(Counts::List(items))
 }
 
 // A word or a number alone as a list: its one entry is read from where it stands.
@@ -316,69 +258,69 @@ fn alone(name: Name) -> Items
 }
 
 // An argument as parameters or covariates: names, a symbol, or `*`. It holds in every text where the argument does.
-pub fn operand_of(arg: Arg) -> OperandRead
-    ensures { (s : List ℕ) → Fits s arg → operand_as s result ≡ operand_of (arg_in s arg) }
+pub fn operand_of(arg: Arg) -> Result<Operand, Refusal>
+    ensures { (s : List ℕ) → Fits s arg → answered (operand_in s) result ≡ operand_of (arg_in s arg) }
 {
     match arg {
-        Arg::Star(_) => OperandRead::Operand(Operand::Wildcard),
-        Arg::Symbol { at: _, name } => OperandRead::Operand(Operand::Symbol(name)),
-        Arg::Word(name) => OperandRead::Operand(Operand::Names(alone(name))),
-        Arg::Number(name) => OperandRead::Operand(Operand::Names(alone(name))),
+        Arg::Star(_) => Ok(Operand::Wildcard),
+        Arg::Symbol { at: _, name } => Ok(Operand::Symbol(name)),
+        Arg::Word(name) => Ok(Operand::Names(alone(name))),
+        Arg::Number(name) => Ok(Operand::Names(alone(name))),
         Arg::Array { at, items } => {
             if items.count == 0 {
-                return OperandRead::Refused(wrong(at));
+                return Err(wrong(at));
             }
-            OperandRead::Operand(Operand::Names(items))
+            Ok(Operand::Names(items))
         }
-        _ => OperandRead::Refused(wrong(place_of(arg))),
+        _ => Err(wrong(place_of(arg))),
     }
 }
 
 // An argument as the values of a LET.
-pub fn items_of(arg: Arg) -> ItemsRead
-    ensures { (s : List ℕ) → Fits s arg → items_as s result ≡ items_of (arg_in s arg) }
+pub fn items_of(arg: Arg) -> Result<Items, Refusal>
+    ensures { (s : List ℕ) → Fits s arg → answered (items_in s) result ≡ items_of (arg_in s arg) }
 {
     match arg {
-        Arg::Word(name) => ItemsRead::Items(alone(name)),
-        Arg::Number(name) => ItemsRead::Items(alone(name)),
+        Arg::Word(name) => Ok(alone(name)),
+        Arg::Number(name) => Ok(alone(name)),
         Arg::Array { at, items } => {
             if items.count == 0 {
-                return ItemsRead::Refused(wrong(at));
+                return Err(wrong(at));
             }
-            ItemsRead::Items(items)
+            Ok(items)
         }
-        _ => ItemsRead::Refused(wrong(place_of(arg))),
+        _ => Err(wrong(place_of(arg))),
     }
 }
 
 // An argument that must be a word.
-pub fn word_of(arg: Arg) -> NameRead
-    ensures { (s : List ℕ) → name_as s result ≡ name_of a_word (arg_in s arg) }
+pub fn word_of(arg: Arg) -> Result<Name, Refusal>
+    ensures { (s : List ℕ) → answered (name_in s) result ≡ name_of a_word (arg_in s arg) }
 {
     match arg {
-        Arg::Word(name) => NameRead::Name(name),
-        _ => NameRead::Refused(wrong(place_of(arg))),
+        Arg::Word(name) => Ok(name),
+        _ => Err(wrong(place_of(arg))),
     }
 }
 
 // An argument that must be a number, as written.
-pub fn number_of(arg: Arg) -> NameRead
-    ensures { (s : List ℕ) → name_as s result ≡ name_of a_number (arg_in s arg) }
+pub fn number_of(arg: Arg) -> Result<Name, Refusal>
+    ensures { (s : List ℕ) → answered (name_in s) result ≡ name_of a_number (arg_in s arg) }
 {
     match arg {
-        Arg::Number(name) => NameRead::Name(name),
-        _ => NameRead::Refused(wrong(place_of(arg))),
+        Arg::Number(name) => Ok(name),
+        _ => Err(wrong(place_of(arg))),
     }
 }
 
 // An operator that is given: `+` or `*`.
-pub fn op_of(arg: Arg) -> OpRead
-    ensures { (s : List ℕ) → op_read_as result ≡ operator_of (some (arg_in s arg)) }
+pub fn op_of(arg: Arg) -> Result<CovariateOp, Refusal>
+    ensures { (s : List ℕ) → answered op_as result ≡ operator_of (some (arg_in s arg)) }
 {
     match arg {
-        Arg::Star(_) => OpRead::Op(CovariateOp::Multiply),
-        Arg::Plus(_) => OpRead::Op(CovariateOp::Add),
-        _ => OpRead::Refused(wrong(place_of(arg))),
+        Arg::Star(_) => Ok(CovariateOp::Multiply),
+        Arg::Plus(_) => Ok(CovariateOp::Add),
+        _ => Err(wrong(place_of(arg))),
     }
 }
 

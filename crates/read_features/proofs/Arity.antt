@@ -5,6 +5,7 @@ use mathlib.Core.Path.{◌≡◌, refl}
 use mathlib.Core.List.{List, ◌∷◌}
 use mathlib.Core.Option.{Option, some, none}
 use mathlib.Core.Bool.{cond}
+use mathlib.Core.Logic.{◌⊎◌, inl, inr}
 use Prim.Native.Nat.{ℕ, zero, suc, ◌-◌, ◌≤◌, ◌<◌}
 use native.Mathlib.Omega.{arith}
 use lib.Dec.{eqb}
@@ -35,49 +36,49 @@ module _ (a b c d : Arg) where
     two-other (suc (suc zero)) f h = absurd (h refl)
     two-other (suc (suc (suc n))) f h = refl
 
-    oneOrTwo-above : (n : ℕ) (f : Arg → Option Arg → Answer A) → 2 < n → one_or_two k (these n) f ≡ wrong_number k.place
-    oneOrTwo-above zero f h = absurd (omega arith)
-    oneOrTwo-above (suc zero) f h = absurd (omega arith)
-    oneOrTwo-above (suc (suc zero)) f h = absurd (omega arith)
-    oneOrTwo-above (suc (suc (suc n))) f h = refl
+    one_or_two-above : (n : ℕ) (f : Arg → Option Arg → Answer A) → 2 < n → one_or_two k (these n) f ≡ wrong_number k.place
+    one_or_two-above zero f h = absurd (omega arith)
+    one_or_two-above (suc zero) f h = absurd (omega arith)
+    one_or_two-above (suc (suc zero)) f h = absurd (omega arith)
+    one_or_two-above (suc (suc (suc n))) f h = refl
 
-    oneOrTwo-of :
+    one_or_two-of :
         (n : ℕ) (f : Arg → Option Arg → Answer A)
         → (n ≡ 0 → ⊥)
         → n ≤ 2
         → one_or_two k (these n) f ≡ f a (cond (eqb n 1) none (some b))
-    oneOrTwo-of zero f h l = absurd (h refl)
-    oneOrTwo-of (suc zero) f h l = refl
-    oneOrTwo-of (suc (suc zero)) f h l = refl
-    oneOrTwo-of (suc (suc (suc n))) f h l = absurd (omega arith)
+    one_or_two-of zero f h l = absurd (h refl)
+    one_or_two-of (suc zero) f h l = refl
+    one_or_two-of (suc (suc zero)) f h l = refl
+    one_or_two-of (suc (suc (suc n))) f h l = absurd (omega arith)
 
-    threeOrFour-below : (n : ℕ) (f : Arg → Arg → Arg → Option Arg → Answer A) → n < 3 → three_or_four k (these n) f ≡ wrong_number k.place
-    threeOrFour-below zero f h = refl
-    threeOrFour-below (suc zero) f h = refl
-    threeOrFour-below (suc (suc zero)) f h = refl
-    threeOrFour-below (suc (suc (suc n))) f h = absurd (omega arith)
+    three_or_four-below : (n : ℕ) (f : Arg → Arg → Arg → Option Arg → Answer A) → n < 3 → three_or_four k (these n) f ≡ wrong_number k.place
+    three_or_four-below zero f h = refl
+    three_or_four-below (suc zero) f h = refl
+    three_or_four-below (suc (suc zero)) f h = refl
+    three_or_four-below (suc (suc (suc n))) f h = absurd (omega arith)
 
-    threeOrFour-above : (n : ℕ) (f : Arg → Arg → Arg → Option Arg → Answer A) → 4 < n → three_or_four k (these n) f ≡ wrong_number k.place
-    threeOrFour-above zero f h = absurd (omega arith)
-    threeOrFour-above (suc zero) f h = absurd (omega arith)
-    threeOrFour-above (suc (suc zero)) f h = absurd (omega arith)
-    threeOrFour-above (suc (suc (suc zero))) f h = absurd (omega arith)
-    threeOrFour-above (suc (suc (suc (suc zero)))) f h = absurd (omega arith)
-    threeOrFour-above (suc (suc (suc (suc (suc n))))) f h =
+    three_or_four-above : (n : ℕ) (f : Arg → Arg → Arg → Option Arg → Answer A) → 4 < n → three_or_four k (these n) f ≡ wrong_number k.place
+    three_or_four-above zero f h = absurd (omega arith)
+    three_or_four-above (suc zero) f h = absurd (omega arith)
+    three_or_four-above (suc (suc zero)) f h = absurd (omega arith)
+    three_or_four-above (suc (suc (suc zero))) f h = absurd (omega arith)
+    three_or_four-above (suc (suc (suc (suc zero)))) f h = absurd (omega arith)
+    three_or_four-above (suc (suc (suc (suc (suc n))))) f h =
         let e : suc (suc (suc (suc (suc n)))) - 4 ≡ suc n = omega arith in
         rw e
 
-    threeOrFour-of :
+    three_or_four-of :
         (n : ℕ) (f : Arg → Arg → Arg → Option Arg → Answer A)
         → 3 ≤ n
         → n ≤ 4
         → three_or_four k (these n) f ≡ f a b c (cond (eqb n 3) none (some d))
-    threeOrFour-of zero f h l = absurd (omega arith)
-    threeOrFour-of (suc zero) f h l = absurd (omega arith)
-    threeOrFour-of (suc (suc zero)) f h l = absurd (omega arith)
-    threeOrFour-of (suc (suc (suc zero))) f h l = refl
-    threeOrFour-of (suc (suc (suc (suc zero)))) f h l = refl
-    threeOrFour-of (suc (suc (suc (suc (suc n))))) f h l = absurd (omega arith)
+    three_or_four-of zero f h l = absurd (omega arith)
+    three_or_four-of (suc zero) f h l = absurd (omega arith)
+    three_or_four-of (suc (suc zero)) f h l = absurd (omega arith)
+    three_or_four-of (suc (suc (suc zero))) f h l = refl
+    three_or_four-of (suc (suc (suc (suc zero)))) f h l = refl
+    three_or_four-of (suc (suc (suc (suc (suc n))))) f h l = absurd (omega arith)
 
 -- the same of the arguments of a form
 module _ (xs : Args) where
@@ -101,43 +102,37 @@ module _ (xs : Args) where
     unfolding args_in
     two-not h s k f = two-other _ _ _ _ k xs.count f h
 
-    pub oneOrTwo-none : xs.count ≡ 0 → (s : List ℕ) (k : Name) (f : Arg → Option Arg → Answer A) → one_or_two k (args_in s xs) f ≡ wrong_number k.place
+    pub one_or_two-not :
+        (xs.count ≡ 0) ⊎ (2 < xs.count)
+        → (s : List ℕ) (k : Name) (f : Arg → Option Arg → Answer A)
+        → one_or_two k (args_in s xs) f ≡ wrong_number k.place
     unfolding args_in
-    oneOrTwo-none h s k f = rw h
+    one_or_two-not (inl h) s k f = rw h
+    one_or_two-not (inr h) s k f = one_or_two-above _ _ _ _ k xs.count f h
 
-    pub oneOrTwo-more : 2 < xs.count → (s : List ℕ) (k : Name) (f : Arg → Option Arg → Answer A) → one_or_two k (args_in s xs) f ≡ wrong_number k.place
-    unfolding args_in
-    oneOrTwo-more h s k f = oneOrTwo-above _ _ _ _ k xs.count f h
-
-    pub oneOrTwo-is :
+    pub one_or_two-is :
         (xs.count ≡ 0 → ⊥)
         → xs.count ≤ 2
         → (s : List ℕ) (k : Name) (f : Arg → Option Arg → Answer A)
         → one_or_two k (args_in s xs) f ≡ f (arg_in s xs.first) (second_in s xs)
     unfolding args_in second_in
-    oneOrTwo-is h l s k f = oneOrTwo-of _ _ _ _ k xs.count f h l
+    one_or_two-is h l s k f = one_or_two-of _ _ _ _ k xs.count f h l
 
-    pub threeOrFour-less :
-        xs.count < 3
+    pub three_or_four-not :
+        (xs.count < 3) ⊎ (4 < xs.count)
         → (s : List ℕ) (k : Name) (f : Arg → Arg → Arg → Option Arg → Answer A)
         → three_or_four k (args_in s xs) f ≡ wrong_number k.place
     unfolding args_in
-    threeOrFour-less h s k f = threeOrFour-below _ _ _ _ k xs.count f h
+    three_or_four-not (inl h) s k f = three_or_four-below _ _ _ _ k xs.count f h
+    three_or_four-not (inr h) s k f = three_or_four-above _ _ _ _ k xs.count f h
 
-    pub threeOrFour-more :
-        4 < xs.count
-        → (s : List ℕ) (k : Name) (f : Arg → Arg → Arg → Option Arg → Answer A)
-        → three_or_four k (args_in s xs) f ≡ wrong_number k.place
-    unfolding args_in
-    threeOrFour-more h s k f = threeOrFour-above _ _ _ _ k xs.count f h
-
-    pub threeOrFour-is :
+    pub three_or_four-is :
         3 ≤ xs.count
         → xs.count ≤ 4
         → (s : List ℕ) (k : Name) (f : Arg → Arg → Arg → Option Arg → Answer A)
         → three_or_four k (args_in s xs) f ≡ f (arg_in s xs.first) (arg_in s xs.second) (arg_in s xs.third) (fourth_in s xs)
     unfolding args_in fourth_in
-    threeOrFour-is h l s k f = threeOrFour-of _ _ _ _ k xs.count f h l
+    three_or_four-is h l s k f = three_or_four-of _ _ _ _ k xs.count f h l
 
   -- an argument that may be left out
   pub second_none : xs.count ≡ 1 → (s : List ℕ) → second_in s xs ≡ none

@@ -1,5 +1,6 @@
 -- Features by what their arguments are, and keywords by their places.
 -- Assumes nothing.
+use Rattle.std.specs.Prelude.{Some, None}
 use mathlib.Core.Path.{◌≡◌, refl}
 use mathlib.Core.Bool.{Bool}
 use mathlib.Core.List.{List, [], ◌∷◌}
@@ -9,7 +10,6 @@ use native.Mathlib.Omega.{arith}
 use native.Mathlib.Nat.{le_of_suc-le-suc}
 use lib.ListN.{length, get_elem?}
 use Rattle.labels.specs.declared.Family.TheVariants.{CovariateEffect, VariabilityEffect}
-use Rattle.labels.specs.declared.Found.TheVariants.{Place, Nothing}
 use Rattle.labels.specs.Word.{find}
 use Rattle.labels.specs.Label.{keywords}
 use Rattle.labels.specs.Table.{found_as}
@@ -20,7 +20,7 @@ use Rattle.reading.specs.Feature.{features, feature_at, keyword_of, explicit, op
 use Rattle.read_forms.specs.declared.Args.{Args}
 use Rattle.read_forms.specs.Forms.{arg_in, args_in}
 use Rattle.read_features.specs.Answers.{fourth_in, covariate_with, Eta, eta_of}
-use Rattle.read_features.proofs.Arity.{threeOrFour-is}
+use Rattle.read_features.proofs.Arity.{three_or_four-is}
 
 -- IIV and IOV
 abbrev eta_from : Answer Operand → Answer Modes → Answer Eta
@@ -52,7 +52,7 @@ pub covariate-is :
     ≡ (operand_of (arg_in s xs.first) >>= λ ps. operand_of (arg_in s xs.second) >>= λ cs. covariate_with m ps cs (arg_in s xs.third) (fourth_in s xs))
 unfolding feature_of
 covariate-is m xs h l s limit k =
-    rw (threeOrFour-is xs h l)
+    rw (three_or_four-is xs h l)
     (go (operand_of (arg_in s xs.first)) (operand_of (arg_in s xs.second)) (modes_of CovariateEffect (arg_in s xs.third)))
   where
     e : Arg
@@ -71,19 +71,19 @@ covariate-is m xs h l s limit k =
     go (refused n o) y z = refl
 
 -- a keyword by its place
-pub keyword-found : (w : List ℕ) (i : ℕ) → Place i ≡ found_as (find w keywords) → keyword_of w ≡ get_elem? features i
+pub keyword-found : (w : List ℕ) (i : ℕ) → Some i ≡ found_as (find w keywords) → keyword_of w ≡ get_elem? features i
 unfolding keyword_of
 keyword-found w i e = go (find w keywords) e
   where
-    go : (o : Option ℕ) → Place i ≡ found_as o → feature_at o ≡ get_elem? features i
+    go : (o : Option ℕ) → Some i ≡ found_as o → feature_at o ≡ get_elem? features i
     go none e = cc
     go (some j) e = cc
 
-pub keyword-none : (w : List ℕ) → Nothing ≡ found_as (find w keywords) → keyword_of w ≡ none
+pub keyword-none : (w : List ℕ) → None ≡ found_as (find w keywords) → keyword_of w ≡ none
 unfolding keyword_of
 keyword-none w e = go (find w keywords) e
   where
-    go : (o : Option ℕ) → Nothing ≡ found_as o → feature_at o ≡ none
+    go : (o : Option ℕ) → None ≡ found_as o → feature_at o ≡ none
     go none e = refl
     go (some j) e = cc
 

@@ -1,5 +1,5 @@
--- What the answers of the functions that build a feature mean, as answers of the definition of reading.
-use Rattle.std.specs.Prelude.{ℕ, Bool, cond, List, ◌≡◌, eqb}
+-- What the functions that build a feature answer, as answers of the definition of reading.
+use Rattle.std.specs.Prelude.{ℕ, Bool, cond, List, ◌≡◌, eqb, Result}
 use Rattle.std.proofs.Math.Option.{Option, some, none}
 use Rattle.std.proofs.Math.ListN.{get_elem?}
 use Rattle.labels.specs.declared.Family.{Family}
@@ -13,50 +13,26 @@ use Rattle.labels.specs.declared.Family.TheVariants.{
   VariabilityEffect,
 }
 use Rattle.reading.specs.Statement as statement
-use Rattle.reading.specs.Statement.{Name, Modes, TransitCounts, Operand, Feature}
+use Rattle.reading.specs.Statement.{Name, Modes, Operand, Feature}
 use Rattle.reading.specs.Answer.{Answer, accepted, ◌>>=◌}
 use Rattle.reading.specs.Argument.{Arg, modes_of, operand_of}
 use Rattle.reading.specs.Feature.{Keyword, features, two, explicit, operator_of, feature_of, known_feature}
 use Rattle.read_forms.specs.declared.Args.{Args}
-use Rattle.read_forms.specs.Forms.{arg_in, args_in, modes_in, transits_in, operand_in, some_modes_in, some_name_in, feature_in}
-use Rattle.read_checks.specs.Answers.{refused_by}
+use Rattle.read_forms.specs.Forms.{arg_in, args_in, modes_in, operand_in, feature_in}
+use Rattle.read_forms.specs.declared.Refusal.{Refusal}
+use Rattle.read_forms.specs.declared.Feature as form
+use Rattle.read_forms.specs.Faults.{answered}
+use Rattle.read_features.specs.declared.Variability as read
 use Rattle.read_features.specs.declared.Alone.{Alone}
 use Rattle.read_features.specs.declared.Alone.TheVariants.{Absorption, Elimination, Lagtime, DirectEffect, EffectComp, Metabolite}
-use Rattle.read_features.specs.declared.Built.{Built}
-use Rattle.read_features.specs.declared.Built.TheVariants as built
-use Rattle.read_features.specs.declared.SomeModesRead.{SomeModesRead}
-use Rattle.read_features.specs.declared.SomeModesRead.TheVariants as someModesRead
-use Rattle.read_features.specs.declared.SomeNameRead.{SomeNameRead}
-use Rattle.read_features.specs.declared.SomeNameRead.TheVariants as someNameRead
-use Rattle.read_features.specs.declared.TransitsRead.{TransitsRead}
-use Rattle.read_features.specs.declared.TransitsRead.TheVariants as transitsRead
-use Rattle.read_features.specs.declared.EtaRead.{EtaRead}
-use Rattle.read_features.specs.declared.EtaRead.TheVariants as etaRead
-
-unfoldable pub built_as : List ℕ → Built → Answer Feature
-built_as s (built.Feature f) = accepted (feature_in s f)
-built_as s (built.Refused r) = refused_by r
-
-unfoldable pub some_modes_as : SomeModesRead → Answer (Option Modes)
-some_modes_as (someModesRead.Modes m) = accepted (some_modes_in m)
-some_modes_as (someModesRead.Refused r) = refused_by r
-
-unfoldable pub some_name_as : List ℕ → SomeNameRead → Answer (Option Name)
-some_name_as s (someNameRead.Name n) = accepted (some_name_in s n)
-some_name_as s (someNameRead.Refused r) = refused_by r
-
-unfoldable pub transits_as : List ℕ → TransitsRead → Answer TransitCounts
-transits_as s (transitsRead.Counts c) = accepted (transits_in s c)
-transits_as s (transitsRead.Refused r) = refused_by r
 
 -- the two arguments of IIV and IOV
 pub record Eta : Type 0 where
   pub parameters : Operand
   pub effects : Modes
 
-unfoldable pub eta_as : List ℕ → EtaRead → Answer Eta
-eta_as s (etaRead.Eta p e) = accepted (record { parameters = operand_in s p; effects = modes_in e })
-eta_as s (etaRead.Refused r) = refused_by r
+abbrev pub eta_in : List ℕ → read.Variability → Eta
+eta_in s e = record { parameters = operand_in s e.parameters; effects = modes_in e.effects }
 
 abbrev pub eta_of : Name → List Arg → Answer Eta
 eta_of k args =
@@ -101,10 +77,10 @@ feature_with EffectComp m = statement.EffectComp m
 feature_with Metabolite m = statement.Metabolite m
 
 -- What is built is the feature of a keyword at an offset. Of the keyword as the text writes it, only the offset matters.
-abbrev pub Builds : List ℕ → ℕ → Keyword → Bool → ℕ → Args → Built → Type 0
-Builds s limit w m o xs r = (k : Name) → k.place ≡ o → built_as s r ≡ feature_of limit w k m (args_in s xs)
+abbrev pub Builds : List ℕ → ℕ → Keyword → Bool → ℕ → Args → Result form.Feature Refusal → Type 0
+Builds s limit w m o xs r = (k : Name) → k.place ≡ o → answered (feature_in s) r ≡ feature_of limit w k m (args_in s xs)
 
 -- likewise, the keyword by its place in the table
-abbrev pub BuildsKnown : List ℕ → ℕ → ℕ → Bool → ℕ → Args → Built → Type 0
+abbrev pub BuildsKnown : List ℕ → ℕ → ℕ → Bool → ℕ → Args → Result form.Feature Refusal → Type 0
 BuildsKnown s limit i m o xs r =
-    (k : Name) → k.place ≡ o → built_as s r ≡ known_feature limit (get_elem? features i) k m (args_in s xs)
+    (k : Name) → k.place ≡ o → answered (feature_in s) r ≡ known_feature limit (get_elem? features i) k m (args_in s xs)

@@ -12,48 +12,23 @@ ghost use Rattle.reading.specs.Feature.{PERIPHERALS, TRANSITS, COVARIATE, ALLOME
 ghost use Rattle.reading.specs.Feature.{modes_only, optionally, transits_of, operator_of, name_of, build_feature};
 ghost use Rattle.reading.specs.Feature.{mandatory as mandatory·spec, explicit as explicit·spec};
 ghost use Rattle.read_forms.specs.Items.{name_in};
-ghost use Rattle.read_forms.specs.Forms.{arg_in, args_in, modes_in, operand_in, feature_in};
+ghost use Rattle.read_forms.specs.Forms.{arg_in, args_in, modes_in, operand_in, transits_in, op_as, some_in, feature_in};
 ghost use Rattle.read_forms.specs.Fits.{InText, Fits, AllFit};
-ghost use Rattle.read_checks.specs.Answers.{modes_as, op_read_as};
-ghost use Rattle.read_features.specs.Answers.{built_as, some_modes_as, some_name_as, transits_as, eta_as, second_in, fourth_in, effects_of, covariate_with, eta_of, family_of, feature_with, Builds, BuildsKnown};
+ghost use Rattle.read_forms.specs.declared.Fault.TheVariants.{WrongNumber};
+ghost use Rattle.read_forms.specs.Faults.{answered};
+ghost use Rattle.read_features.specs.Answers.{eta_in, second_in, fourth_in, effects_of, covariate_with, eta_of, family_of, feature_with, Builds, BuildsKnown};
 
-use labels::{Family, Found, Keywords, Labels};
-use read_checks::{CountsRead, ModesRead, NameRead, OpRead, OperandRead};
+use labels::{Family, Keywords, Labels};
 use read_forms::{
-    Arg, Args, CovariateOp, Feature, Modes, Name, Operand, Refusal, SomeModes, SomeName,
-    TransitCounts,
+    Arg, Args, CovariateOp, Fault, Feature, Modes, Name, Operand, Refusal, TransitCounts,
 };
 use tokens::Classes;
 
-#[derive(Clone, Copy)]
-pub enum Built {
-    Feature(Feature),
-    Refused(Refusal),
-}
-
-#[derive(Clone, Copy)]
-enum SomeModesRead {
-    Modes(SomeModes),
-    Refused(Refusal),
-}
-
-#[derive(Clone, Copy)]
-enum SomeNameRead {
-    Name(SomeName),
-    Refused(Refusal),
-}
-
-#[derive(Clone, Copy)]
-enum TransitsRead {
-    Counts(TransitCounts),
-    Refused(Refusal),
-}
-
 // The arguments of IIV and IOV.
 #[derive(Clone, Copy)]
-enum EtaRead {
-    Eta(Operand, Modes),
-    Refused(Refusal),
+struct Variability {
+    parameters: Operand,
+    effects: Modes,
 }
 
 // The features of one argument, which is modes, and no `?`.
@@ -69,25 +44,25 @@ enum Alone {
 
 // The number of arguments, refused at the keyword.
 fn wrong_number(at: usize) -> Refusal
-    ensures { result ≡ record { number = 8; place = at } }
+    ensures { result ≡ record { fault = WrongNumber; place = at } }
 {
     Refusal {
-        number: read_forms::WRONG_NUMBER,
+        fault: Fault::WrongNumber,
         place: at,
     }
 }
 
 // A feature that takes no `?`.
-fn mandatory(feature: Feature, optional: bool, at: usize) -> Built
-    ensures { (s : List ℕ) (k : Name·spec) → k.place ≡ at → built_as s result ≡ mandatory·spec k optional (feature_in s feature) }
+fn mandatory(feature: Feature, optional: bool, at: usize) -> Result<Feature, Refusal>
+    ensures { (s : List ℕ) (k : Name·spec) → k.place ≡ at → answered (feature_in s) result ≡ mandatory·spec k optional (feature_in s feature) }
 {
     if optional {
-        return Built::Refused(Refusal {
-            number: read_forms::NOT_OPTIONAL,
+        return Err(Refusal {
+            fault: Fault::NotOptional,
             place: at,
         });
     }
-    Built::Feature(feature)
+    Ok(feature)
 }
 
 // The family of the modes of a feature that has no other argument.
@@ -126,18 +101,15 @@ fn modes_alone(
     args: Args,
     optional: bool,
     at: usize,
-) -> Built
+) -> Result<Feature, Refusal>
     requires { (classes.now ≡ class_table) × (labels.now ≡ label_table) × AllFit text.now args }
-    ensures { (k : Name·spec) → k.place ≡ at → built_as text.now result ≡ modes_only (family_of alone) (feature_with alone) k optional (args_in text.now args) }
+    ensures { (k : Name·spec) → k.place ≡ at → answered (feature_in text.now) result ≡ modes_only (family_of alone) (feature_with alone) k optional (args_in text.now args) }
 {
     if args.count != 1 {
-        return Built::Refused(wrong_number(at));
+        return Err(wrong_number(at));
     }
-    let first = args.first;
-    match read_checks::modes_of(text, classes, labels, family_of(alone), first) {
-        ModesRead::Modes(modes) => mandatory(feature_with(alone, modes), optional, at),
-        ModesRead::Refused(r) => Built::Refused(r),
-    }
+    let modes = read_checks::modes_of(text, classes, labels, family_of(alone), args.first)?;
+    mandatory(feature_with(alone, modes), optional, at)
 }
 
 // Modes as the second argument, which may be left out.
@@ -147,18 +119,15 @@ fn second_modes(
     labels: &Labels,
     family: Family,
     args: Args,
-) -> SomeModesRead
+) -> Result<Option<Modes>, Refusal>
     requires { (classes.now ≡ class_table) × (labels.now ≡ label_table) × AllFit text.now args }
-    ensures { some_modes_as result ≡ optionally (modes_of family) (second_in text.now args) }
+    ensures { answered (some_in modes_in) result ≡ optionally (modes_of family) (second_in text.now args) }
 {
     if args.count == 1 {
-        return SomeModesRead::Modes(SomeModes::Absent);
+        return Ok(None);
     }
-    let second = args.second;
-    match read_checks::modes_of(text, classes, labels, family, second) {
-        ModesRead::Modes(modes) => SomeModesRead::Modes(SomeModes::Given(modes)),
-        ModesRead::Refused(r) => SomeModesRead::Refused(r),
-    }
+    let modes = read_checks::modes_of(text, classes, labels, family, args.second)?;
+    Ok(Some(modes))
 }
 
 fn peripherals(
@@ -169,56 +138,39 @@ fn peripherals(
     optional: bool,
     at: usize,
     limit: u32,
-) -> Built
+) -> Result<Feature, Refusal>
     requires { (classes.now ≡ class_table) × (labels.now ≡ label_table) × AllFit text.now args }
     ensures { Builds text.now limit PERIPHERALS optional at args result }
 {
-    if args.count == 0 {
-        return Built::Refused(wrong_number(at));
+    if args.count == 0 || 2 < args.count {
+        return Err(wrong_number(at));
     }
-    if 2 < args.count {
-        return Built::Refused(wrong_number(at));
-    }
-    let first = args.first;
-    match read_checks::counts_of(text, classes, first, limit) {
-        CountsRead::Counts(counts) => match second_modes(
-            text,
-            classes,
-            labels,
-            Family::PeripheralKind,
-            args,
-        ) {
-            SomeModesRead::Modes(kind) => mandatory(
-                Feature::Peripherals { counts, kind },
-                optional,
-                at,
-            ),
-            SomeModesRead::Refused(r) => Built::Refused(r),
-        },
-        CountsRead::Refused(r) => Built::Refused(r),
-    }
+    let counts = read_checks::counts_of(text, classes, args.first, limit)?;
+    let kind = second_modes(text, classes, labels, Family::PeripheralKind, args)?;
+    mandatory(Feature::Peripherals { counts, kind }, optional, at)
 }
 
 // Counts or N as the first argument. N takes no second one.
-fn transits_of(text: &[u8], classes: &Classes, args: Args, limit: u32) -> TransitsRead
+fn transits_of(
+    text: &[u8],
+    classes: &Classes,
+    args: Args,
+    limit: u32,
+) -> Result<TransitCounts, Refusal>
     requires { (classes.now ≡ class_table) × AllFit text.now args }
-    ensures { transits_as text.now result ≡ transits_of limit (arg_in text.now args.first) (second_in text.now args) }
+    ensures { answered (transits_in text.now) result ≡ transits_of limit (arg_in text.now args.first) (second_in text.now args) }
 {
-    let first = args.first;
-    if read_checks::is_n(text, first) {
-        if args.count == 1 {
-            return TransitsRead::Counts(TransitCounts::N);
-        }
-        let second = args.second;
-        return TransitsRead::Refused(Refusal {
-            number: read_forms::WRONG_ARGUMENT,
-            place: read_checks::place_of(second),
-        });
+    if !read_checks::is_n(text, args.first) {
+        let counts = read_checks::counts_of(text, classes, args.first, limit)?;
+        return Ok(TransitCounts::Counts(counts));
     }
-    match read_checks::counts_of(text, classes, first, limit) {
-        CountsRead::Counts(counts) => TransitsRead::Counts(TransitCounts::Counts(counts)),
-        CountsRead::Refused(r) => TransitsRead::Refused(r),
+    if args.count == 1 {
+        return Ok(TransitCounts::N);
     }
+    Err(Refusal {
+        fault: Fault::WrongArgument,
+        place: read_checks::place_of(args.second),
+    })
 }
 
 fn transits(
@@ -229,48 +181,31 @@ fn transits(
     optional: bool,
     at: usize,
     limit: u32,
-) -> Built
+) -> Result<Feature, Refusal>
     requires { (classes.now ≡ class_table) × (labels.now ≡ label_table) × AllFit text.now args }
     ensures { Builds text.now limit TRANSITS optional at args result }
 {
-    if args.count == 0 {
-        return Built::Refused(wrong_number(at));
+    if args.count == 0 || 2 < args.count {
+        return Err(wrong_number(at));
     }
-    if 2 < args.count {
-        return Built::Refused(wrong_number(at));
-    }
-    match transits_of(text, classes, args, limit) {
-        TransitsRead::Counts(counts) => match second_modes(
-            text,
-            classes,
-            labels,
-            Family::DepotMode,
-            args,
-        ) {
-            SomeModesRead::Modes(depot) => mandatory(
-                Feature::Transits { counts, depot },
-                optional,
-                at,
-            ),
-            SomeModesRead::Refused(r) => Built::Refused(r),
-        },
-        TransitsRead::Refused(r) => Built::Refused(r),
-    }
+    let counts = transits_of(text, classes, args, limit)?;
+    let depot = second_modes(text, classes, labels, Family::DepotMode, args)?;
+    mandatory(Feature::Transits { counts, depot }, optional, at)
 }
 
 // Effects that are not the mandatory `*`.
-fn explicit(arg: Arg, modes: Modes, optional: bool) -> ModesRead
-    ensures { (s : List ℕ) → modes_as result ≡ explicit·spec optional (arg_in s arg) (modes_in modes) }
+fn explicit(arg: Arg, modes: Modes, optional: bool) -> Result<Modes, Refusal>
+    ensures { (s : List ℕ) → answered modes_in result ≡ explicit·spec optional (arg_in s arg) (modes_in modes) }
 {
     if optional {
-        return ModesRead::Modes(modes);
+        return Ok(modes);
     }
     match modes {
-        Modes::Wildcard => ModesRead::Refused(Refusal {
-            number: read_forms::WRONG_ARGUMENT,
+        Modes::Wildcard => Err(Refusal {
+            fault: Fault::WrongArgument,
             place: read_checks::place_of(arg),
         }),
-        Modes::List(items) => ModesRead::Modes(Modes::List(items)),
+        Modes::List(_) => Ok(modes),
     }
 }
 
@@ -281,25 +216,22 @@ fn effects_of(
     labels: &Labels,
     arg: Arg,
     optional: bool,
-) -> ModesRead
+) -> Result<Modes, Refusal>
     requires { (classes.now ≡ class_table) × (labels.now ≡ label_table) × Fits text.now arg }
-    ensures { modes_as result ≡ effects_of optional (arg_in text.now arg) }
+    ensures { answered modes_in result ≡ effects_of optional (arg_in text.now arg) }
 {
-    match read_checks::modes_of(text, classes, labels, Family::CovariateEffect, arg) {
-        ModesRead::Modes(modes) => explicit(arg, modes, optional),
-        ModesRead::Refused(r) => ModesRead::Refused(r),
-    }
+    let modes = read_checks::modes_of(text, classes, labels, Family::CovariateEffect, arg)?;
+    explicit(arg, modes, optional)
 }
 
 // The operator as the fourth argument, which may be left out.
-fn operator(args: Args) -> OpRead
-    ensures { (s : List ℕ) → op_read_as result ≡ operator_of (fourth_in s args) }
+fn operator(args: Args) -> Result<CovariateOp, Refusal>
+    ensures { (s : List ℕ) → answered op_as result ≡ operator_of (fourth_in s args) }
 {
     if args.count == 3 {
-        return OpRead::Op(CovariateOp::Multiply);
+        return Ok(CovariateOp::Multiply);
     }
-    let fourth = args.fourth;
-    read_checks::op_of(fourth)
+    read_checks::op_of(args.fourth)
 }
 
 // COVARIATE of parameters and covariates that are read.
@@ -311,24 +243,19 @@ fn covariate_with(
     covariates: Operand,
     args: Args,
     optional: bool,
-) -> Built
+) -> Result<Feature, Refusal>
     requires { (classes.now ≡ class_table) × (labels.now ≡ label_table) × AllFit text.now args }
-    ensures { built_as text.now result ≡ covariate_with optional (operand_in text.now parameters) (operand_in text.now covariates) (arg_in text.now args.third) (fourth_in text.now args) }
+    ensures { answered (feature_in text.now) result ≡ covariate_with optional (operand_in text.now parameters) (operand_in text.now covariates) (arg_in text.now args.third) (fourth_in text.now args) }
 {
-    let third = args.third;
-    match effects_of(text, classes, labels, third, optional) {
-        ModesRead::Modes(effects) => match operator(args) {
-            OpRead::Op(op) => Built::Feature(Feature::Covariate {
-                optional,
-                parameters,
-                covariates,
-                effects,
-                op,
-            }),
-            OpRead::Refused(r) => Built::Refused(r),
-        },
-        ModesRead::Refused(r) => Built::Refused(r),
-    }
+    let effects = effects_of(text, classes, labels, args.third, optional)?;
+    let op = operator(args)?;
+    Ok(Feature::Covariate {
+        optional,
+        parameters,
+        covariates,
+        effects,
+        op,
+    })
 }
 
 fn covariate(
@@ -338,67 +265,44 @@ fn covariate(
     args: Args,
     optional: bool,
     at: usize,
-) -> Built
+) -> Result<Feature, Refusal>
     requires { (classes.now ≡ class_table) × (labels.now ≡ label_table) × AllFit text.now args }
     ensures { (limit : ℕ) → Builds text.now limit COVARIATE optional at args result }
 {
-    if args.count < 3 {
-        return Built::Refused(wrong_number(at));
+    if args.count < 3 || 4 < args.count {
+        return Err(wrong_number(at));
     }
-    if 4 < args.count {
-        return Built::Refused(wrong_number(at));
-    }
-    let first = args.first;
-    let second = args.second;
-    match read_checks::operand_of(first) {
-        OperandRead::Operand(parameters) => match read_checks::operand_of(second) {
-            OperandRead::Operand(covariates) => covariate_with(
-                text, classes, labels, parameters, covariates, args, optional,
-            ),
-            OperandRead::Refused(r) => Built::Refused(r),
-        },
-        OperandRead::Refused(r) => Built::Refused(r),
-    }
+    let parameters = read_checks::operand_of(args.first)?;
+    let covariates = read_checks::operand_of(args.second)?;
+    covariate_with(
+        text, classes, labels, parameters, covariates, args, optional,
+    )
 }
 
 // A number as the second argument, which may be left out.
-fn reference(args: Args) -> SomeNameRead
-    ensures { (s : List ℕ) → some_name_as s result ≡ optionally (name_of a_number) (second_in s args) }
+fn reference(args: Args) -> Result<Option<Name>, Refusal>
+    ensures { (s : List ℕ) → answered (some_in (name_in s)) result ≡ optionally (name_of a_number) (second_in s args) }
 {
     if args.count == 1 {
-        return SomeNameRead::Name(SomeName::Absent);
+        return Ok(None);
     }
-    let second = args.second;
-    match read_checks::number_of(second) {
-        NameRead::Name(name) => SomeNameRead::Name(SomeName::Given(name)),
-        NameRead::Refused(r) => SomeNameRead::Refused(r),
-    }
+    let name = read_checks::number_of(args.second)?;
+    Ok(Some(name))
 }
 
-fn allometry(args: Args, optional: bool, at: usize) -> Built
+fn allometry(args: Args, optional: bool, at: usize) -> Result<Feature, Refusal>
     ensures { (s : List ℕ) (limit : ℕ) → Builds s limit ALLOMETRY optional at args result }
 {
-    if args.count == 0 {
-        return Built::Refused(wrong_number(at));
+    if args.count == 0 || 2 < args.count {
+        return Err(wrong_number(at));
     }
-    if 2 < args.count {
-        return Built::Refused(wrong_number(at));
-    }
-    let first = args.first;
-    match read_checks::word_of(first) {
-        NameRead::Name(covariate) => match reference(args) {
-            SomeNameRead::Name(reference) => mandatory(
-                Feature::Allometry {
-                    covariate,
-                    reference,
-                },
-                optional,
-                at,
-            ),
-            SomeNameRead::Refused(r) => Built::Refused(r),
-        },
-        NameRead::Refused(r) => Built::Refused(r),
-    }
+    let covariate = read_checks::word_of(args.first)?;
+    let reference = reference(args)?;
+    let feature = Feature::Allometry {
+        covariate,
+        reference,
+    };
+    mandatory(feature, optional, at)
 }
 
 fn indirect_effect(
@@ -408,57 +312,50 @@ fn indirect_effect(
     args: Args,
     optional: bool,
     at: usize,
-) -> Built
+) -> Result<Feature, Refusal>
     requires { (classes.now ≡ class_table) × (labels.now ≡ label_table) × AllFit text.now args }
     ensures { (limit : ℕ) → Builds text.now limit INDIRECTEFFECT optional at args result }
 {
     if args.count != 2 {
-        return Built::Refused(wrong_number(at));
+        return Err(wrong_number(at));
     }
-    let first = args.first;
-    let second = args.second;
-    match read_checks::modes_of(text, classes, labels, Family::PdMode, first) {
-        ModesRead::Modes(mode) => match read_checks::modes_of(
-            text,
-            classes,
-            labels,
-            Family::ProductionMode,
-            second,
-        ) {
-            ModesRead::Modes(production) => mandatory(
-                Feature::IndirectEffect { mode, production },
-                optional,
-                at,
-            ),
-            ModesRead::Refused(r) => Built::Refused(r),
-        },
-        ModesRead::Refused(r) => Built::Refused(r),
-    }
+    let mode = read_checks::modes_of(text, classes, labels, Family::PdMode, args.first)?;
+    let production = read_checks::modes_of(
+        text,
+        classes,
+        labels,
+        Family::ProductionMode,
+        args.second,
+    )?;
+    mandatory(Feature::IndirectEffect { mode, production }, optional, at)
 }
 
 // The arguments of IIV and IOV.
-fn eta(text: &[u8], classes: &Classes, labels: &Labels, args: Args, at: usize) -> EtaRead
+fn eta(
+    text: &[u8],
+    classes: &Classes,
+    labels: &Labels,
+    args: Args,
+    at: usize,
+) -> Result<Variability, Refusal>
     requires { (classes.now ≡ class_table) × (labels.now ≡ label_table) × AllFit text.now args }
-    ensures { (k : Name·spec) → k.place ≡ at → eta_as text.now result ≡ eta_of k (args_in text.now args) }
+    ensures { (k : Name·spec) → k.place ≡ at → answered (eta_in text.now) result ≡ eta_of k (args_in text.now args) }
 {
     if args.count != 2 {
-        return EtaRead::Refused(wrong_number(at));
+        return Err(wrong_number(at));
     }
-    let first = args.first;
-    let second = args.second;
-    match read_checks::operand_of(first) {
-        OperandRead::Operand(parameters) => match read_checks::modes_of(
-            text,
-            classes,
-            labels,
-            Family::VariabilityEffect,
-            second,
-        ) {
-            ModesRead::Modes(effects) => EtaRead::Eta(parameters, effects),
-            ModesRead::Refused(r) => EtaRead::Refused(r),
-        },
-        OperandRead::Refused(r) => EtaRead::Refused(r),
-    }
+    let parameters = read_checks::operand_of(args.first)?;
+    let effects = read_checks::modes_of(
+        text,
+        classes,
+        labels,
+        Family::VariabilityEffect,
+        args.second,
+    )?;
+    Ok(Variability {
+        parameters,
+        effects,
+    })
 }
 
 fn iiv(
@@ -468,18 +365,16 @@ fn iiv(
     args: Args,
     optional: bool,
     at: usize,
-) -> Built
+) -> Result<Feature, Refusal>
     requires { (classes.now ≡ class_table) × (labels.now ≡ label_table) × AllFit text.now args }
     ensures { (limit : ℕ) → Builds text.now limit IIV optional at args result }
 {
-    match eta(text, classes, labels, args, at) {
-        EtaRead::Eta(parameters, effects) => Built::Feature(Feature::Iiv {
-            optional,
-            parameters,
-            effects,
-        }),
-        EtaRead::Refused(r) => Built::Refused(r),
-    }
+    let eta = eta(text, classes, labels, args, at)?;
+    Ok(Feature::Iiv {
+        optional,
+        parameters: eta.parameters,
+        effects: eta.effects,
+    })
 }
 
 fn iov(
@@ -489,18 +384,16 @@ fn iov(
     args: Args,
     optional: bool,
     at: usize,
-) -> Built
+) -> Result<Feature, Refusal>
     requires { (classes.now ≡ class_table) × (labels.now ≡ label_table) × AllFit text.now args }
     ensures { (limit : ℕ) → Builds text.now limit IOV optional at args result }
 {
-    match eta(text, classes, labels, args, at) {
-        EtaRead::Eta(parameters, effects) => Built::Feature(Feature::Iov {
-            optional,
-            parameters,
-            effects,
-        }),
-        EtaRead::Refused(r) => Built::Refused(r),
-    }
+    let eta = eta(text, classes, labels, args, at)?;
+    Ok(Feature::Iov {
+        optional,
+        parameters: eta.parameters,
+        effects: eta.effects,
+    })
 }
 
 fn covariance(
@@ -510,26 +403,20 @@ fn covariance(
     args: Args,
     optional: bool,
     at: usize,
-) -> Built
+) -> Result<Feature, Refusal>
     requires { (classes.now ≡ class_table) × (labels.now ≡ label_table) × AllFit text.now args }
     ensures { (limit : ℕ) → Builds text.now limit COVARIANCE optional at args result }
 {
     if args.count != 2 {
-        return Built::Refused(wrong_number(at));
+        return Err(wrong_number(at));
     }
-    let first = args.first;
-    let second = args.second;
-    match read_checks::modes_of(text, classes, labels, Family::VariabilityLevel, first) {
-        ModesRead::Modes(level) => match read_checks::operand_of(second) {
-            OperandRead::Operand(parameters) => Built::Feature(Feature::Covariance {
-                optional,
-                level,
-                parameters,
-            }),
-            OperandRead::Refused(r) => Built::Refused(r),
-        },
-        ModesRead::Refused(r) => Built::Refused(r),
-    }
+    let level = read_checks::modes_of(text, classes, labels, Family::VariabilityLevel, args.first)?;
+    let parameters = read_checks::operand_of(args.second)?;
+    Ok(Feature::Covariance {
+        optional,
+        level,
+        parameters,
+    })
 }
 
 // The first seven keywords of the table.
@@ -542,7 +429,7 @@ fn build_early(
     optional: bool,
     at: usize,
     limit: u32,
-) -> Built
+) -> Result<Feature, Refusal>
     requires classes_value { (classes.now ≡ class_table) × (labels.now ≡ label_table) × AllFit text.now args }
     requires keyword_bound { keyword < 7 }
     ensures { BuildsKnown text.now limit keyword optional at args result }
@@ -576,7 +463,7 @@ fn build_late(
     optional: bool,
     at: usize,
     limit: u32,
-) -> Built
+) -> Result<Feature, Refusal>
     requires classes_value { (classes.now ≡ class_table) × (labels.now ≡ label_table) × AllFit text.now args }
     requires le_keyword { 7 ≤ keyword }
     ensures { BuildsKnown text.now limit keyword optional at args result }
@@ -597,8 +484,8 @@ fn build_late(
         11 => iiv(text, classes, labels, args, optional, at),
         12 => iov(text, classes, labels, args, optional, at),
         13 => covariance(text, classes, labels, args, optional, at),
-        _ => Built::Refused(Refusal {
-            number: read_forms::UNKNOWN_KEYWORD,
+        _ => Err(Refusal {
+            fault: Fault::UnknownKeyword,
             place: at,
         }),
     }
@@ -614,7 +501,7 @@ pub fn build_known(
     optional: bool,
     at: usize,
     limit: u32,
-) -> Built
+) -> Result<Feature, Refusal>
     requires { (classes.now ≡ class_table) × (labels.now ≡ label_table) × AllFit text.now args }
     ensures { BuildsKnown text.now limit keyword optional at args result }
 {
@@ -634,20 +521,25 @@ pub fn build(
     args: Args,
     optional: bool,
     limit: u32,
-) -> Built
+) -> Result<Feature, Refusal>
     requires classes_value { (classes.now ≡ class_table) × (labels.now ≡ label_table) × (keys.now ≡ keyword_table) }
     requires in_text { InText text.now keyword × AllFit text.now args }
-    ensures { built_as text.now result ≡ build_feature limit (name_in text.now keyword) optional (args_in text.now args) }
+    ensures { answered (feature_in text.now) result ≡ build_feature limit (name_in text.now keyword) optional (args_in text.now args) }
 {
-    let start = keyword.offset;
-    let end = start + keyword.length;
-    match labels::find_keyword(keys, &text[start..end]) {
-        Found::Place(place) => build_known(
-            text, classes, labels, place, args, optional, start, limit,
-        ),
-        Found::Nothing => Built::Refused(Refusal {
-            number: read_forms::UNKNOWN_KEYWORD,
-            place: start,
-        }),
-    }
+    let Some(place) = labels::find_keyword(keys, read_forms::spelling(text, keyword)) else {
+        return Err(Refusal {
+            fault: Fault::UnknownKeyword,
+            place: keyword.offset,
+        });
+    };
+    build_known(
+        text,
+        classes,
+        labels,
+        place,
+        args,
+        optional,
+        keyword.offset,
+        limit,
+    )
 }

@@ -1,23 +1,8 @@
 -- What a form means: the argument or the statement of the definition of reading that it stands for in a text.
-use Rattle.std.specs.Prelude.{ℕ, ◌-◌, List, ◌∷◌, map, take, replicate}
+use Rattle.std.specs.Prelude.{ℕ, ◌-◌, List, ◌∷◌, map, take, replicate, Option as Option·rust, Some, None}
 use Rattle.std.proofs.Math.Option.{Option, some, none}
-use Rattle.counts.specs.declared.Counted.{Counted}
-use Rattle.counts.specs.declared.Counted.TheVariants.{Count, Refused}
 use Rattle.counts.specs.Count.{count_of}
 use Rattle.labels.specs.declared.Family.{Family}
-use Rattle.labels.specs.declared.Family.TheVariants.{
-  AbsorptionMode,
-  EliminationMode,
-  PeripheralKind,
-  DepotMode,
-  LagtimeMode,
-  CovariateEffect,
-  PdMode,
-  ProductionMode,
-  MetaboliteMode,
-  VariabilityEffect,
-  VariabilityLevel,
-}
 use Rattle.labels.specs.Word.{find}
 use Rattle.labels.specs.Label.{labels_of}
 use Rattle.reading.specs.Statement.{Name, a_word, a_number, Item}
@@ -37,10 +22,6 @@ use Rattle.read_forms.specs.declared.Operand.{Operand}
 use Rattle.read_forms.specs.declared.Operand.TheVariants as operand
 use Rattle.read_forms.specs.declared.CovariateOp.{CovariateOp}
 use Rattle.read_forms.specs.declared.CovariateOp.TheVariants.{Multiply, Add}
-use Rattle.read_forms.specs.declared.SomeModes.{SomeModes}
-use Rattle.read_forms.specs.declared.SomeModes.TheVariants as some_modes
-use Rattle.read_forms.specs.declared.SomeName.{SomeName}
-use Rattle.read_forms.specs.declared.SomeName.TheVariants as some_name
 use Rattle.read_forms.specs.declared.Feature.{Feature}
 use Rattle.read_forms.specs.declared.Feature.TheVariants.{
   Absorption,
@@ -99,9 +80,9 @@ modes_in modes.Wildcard = statement.all_modes
 modes_in (modes.List n) = statement.modes (places n)
 
 -- each entry as a 32-bit number, all of them being counts
-abbrev pub count_or0 : Counted → ℕ
-count_or0 Refused = 0
-count_or0 (Count v) = v
+abbrev pub count_or0 : Option·rust ℕ → ℕ
+count_or0 None = 0
+count_or0 (Some v) = v
 
 abbrev pub count_for : Item → ℕ
 count_for i = count_or0 (count_of 4294967295 i.name.spelling)
@@ -127,18 +108,14 @@ abbrev pub op_as : CovariateOp → statement.Operator
 op_as Multiply = statement.multiply
 op_as Add = statement.add
 
-unfoldable pub some_modes_in : SomeModes → Option statement.Modes
-some_modes_in some_modes.Absent = none
-some_modes_in (some_modes.Given m) = some (modes_in m)
-
-unfoldable pub some_name_in : List ℕ → SomeName → Option Name
-some_name_in s some_name.Absent = none
-some_name_in s (some_name.Given n) = some (name_in s n)
+-- what may be left out, by what it stands for
+unfoldable pub some_in : {A B : Type 0} → (A → B) → Option·rust A → Option B
+some_in f None = none
+some_in f (Some a) = some (f a)
 
 -- What the names and the lists of a form mean, wherever they stand. Lists stand in the first two arguments alone.
 pub record Meanings : Type 0 where
   pub name : form.Name → Name
-  pub some_name : SomeName → Option Name
   pub counts : Counts → statement.Counts
   pub transits : TransitCounts → statement.TransitCounts
   pub first : Operand → statement.Operand
@@ -148,11 +125,11 @@ pub record Meanings : Type 0 where
 abbrev pub feature_by : Meanings → Feature → statement.Feature
 feature_by x (Absorption m) = statement.Absorption (modes_in m)
 feature_by x (Elimination m) = statement.Elimination (modes_in m)
-feature_by x (Peripherals c k) = statement.Peripherals (x.counts c) (some_modes_in k)
-feature_by x (Transits c d) = statement.Transits (x.transits c) (some_modes_in d)
+feature_by x (Peripherals c k) = statement.Peripherals (x.counts c) (some_in modes_in k)
+feature_by x (Transits c d) = statement.Transits (x.transits c) (some_in modes_in d)
 feature_by x (Lagtime m) = statement.Lagtime (modes_in m)
 feature_by x (Covariate o p c e op) = statement.Covariate o (x.first p) (x.second c) (modes_in e) (op_as op)
-feature_by x (Allometry c r) = statement.Allometry (x.name c) (x.some_name r)
+feature_by x (Allometry c r) = statement.Allometry (x.name c) (some_in x.name r)
 feature_by x (DirectEffect m) = statement.DirectEffect (modes_in m)
 feature_by x (EffectComp m) = statement.EffectComp (modes_in m)
 feature_by x (IndirectEffect m p) = statement.IndirectEffect (modes_in m) (modes_in p)
@@ -169,7 +146,6 @@ statement_by x (statements.Feature f) = statement.feature (feature_by x f)
 abbrev pub in_text : List ℕ → Meanings
 in_text s = record {
   name = name_in s;
-  some_name = some_name_in s;
   counts = counts_in s;
   transits = transits_in s;
   first = operand_in s;

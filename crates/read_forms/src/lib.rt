@@ -6,9 +6,10 @@ ghost use Rattle.std.specs.Prelude.{◌≡◌};
 ghost use Rattle.counts.specs.Count.{count_of};
 ghost use Rattle.read_forms.specs.Items.{name_in};
 ghost use Rattle.read_forms.specs.Fits.{InText};
+ghost use Rattle.reading.specs.Argument.{count_at as judged};
+ghost use Rattle.read_forms.specs.Faults.{answered, same};
 ghost use Rattle.read_forms.specs.Admission.{AdmissionAs};
 
-use counts::Counted;
 use tokens::Cursor;
 
 // A name or a symbol: the offset of its first byte, and how many it has.
@@ -61,39 +62,39 @@ pub struct Args {
     pub fourth: Arg,
 }
 
-// The faults of reading, printing and Statement by their numbers.
-pub const TOO_LONG: u8 = 1;
+// Why a call refuses what it is given: the paper's faults, each with its number.
+#[derive(Clone, Copy, PartialEq, Eq)]
+pub enum Fault {
+    TooLong = 1,
+    BadByte = 2,
+    Unexpected = 3,
+    BadCount = 4,
+    Backwards = 5,
+    UnknownKeyword = 6,
+    NotOptional = 7,
+    WrongNumber = 8,
+    WrongArgument = 9,
+    UnknownMode = 10,
+    TooMany = 11,
+    WrongContext = 12,
+    SecondLet = 13,
+    UnknownSymbol = 14,
+    UnknownName = 15,
+    WrongKind = 16,
+    ForcedTwice = 17,
+    TooLarge = 18,
+    TooShort = 19,
+    NoStatement = 20,
+    CeilingTooHigh = 21,
+    OutsideProfile = 22,
+    SecondStatement = 23,
+    CountAboveTen = 24,
+}
 
-pub const BAD_BYTE: u8 = 2;
-
-pub const UNEXPECTED: u8 = 3;
-
-pub const BAD_COUNT: u8 = 4;
-
-pub const BACKWARDS: u8 = 5;
-
-pub const UNKNOWN_KEYWORD: u8 = 6;
-
-pub const NOT_OPTIONAL: u8 = 7;
-
-pub const WRONG_NUMBER: u8 = 8;
-
-pub const WRONG_ARGUMENT: u8 = 9;
-
-pub const UNKNOWN_MODE: u8 = 10;
-
-pub const TOO_MANY: u8 = 11;
-
-pub const TOO_SHORT: u8 = 19;
-
-pub const NO_STATEMENT: u8 = 20;
-
-pub const CEILING_TOO_HIGH: u8 = 21;
-
-// Why a text is refused: the fault's number and its place.
+// A refusal: its fault, and the place in the text or the index of the statement that it names.
 #[derive(Clone, Copy)]
 pub struct Refusal {
-    pub number: u8,
+    pub fault: Fault,
     pub place: usize,
 }
 
@@ -130,31 +131,18 @@ pub enum CovariateOp {
     Add,
 }
 
-// A second argument of modes, which may be left out.
-#[derive(Clone, Copy)]
-pub enum SomeModes {
-    Absent,
-    Given(Modes),
-}
-
-// A reference value, which may be left out.
-#[derive(Clone, Copy)]
-pub enum SomeName {
-    Absent,
-    Given(Name),
-}
-
+// A feature with its arguments; one that may be left out is an Option.
 #[derive(Clone, Copy)]
 pub enum Feature {
     Absorption(Modes),
     Elimination(Modes),
     Peripherals {
         counts: Counts,
-        kind: SomeModes,
+        kind: Option<Modes>,
     },
     Transits {
         counts: TransitCounts,
-        depot: SomeModes,
+        depot: Option<Modes>,
     },
     Lagtime(Modes),
     Covariate {
@@ -166,7 +154,7 @@ pub enum Feature {
     },
     Allometry {
         covariate: Name,
-        reference: SomeName,
+        reference: Option<Name>,
     },
     DirectEffect(Modes),
     EffectComp(Modes),
@@ -209,35 +197,39 @@ pub fn spelling(text: &[u8], name: Name) -> &[u8]
 }
 
 // A number of the text as a count.
-pub fn count_at(text: &[u8], name: Name, limit: u32) -> Counted
+pub fn count_at(text: &[u8], name: Name, limit: u32) -> Option<u32>
     requires { InText text.now name }
     ensures { result ≡ count_of limit (name_in text.now name).spelling }
 {
     counts::count_of(spelling(text, name), limit)
 }
 
-// Whether a text is read at all, or why it is not.
-#[derive(Clone, Copy)]
-pub enum Admission {
-    Fine,
-    Refused(Refusal),
+// The same, or the refusal of what is no count.
+pub fn judge_count(text: &[u8], name: Name, limit: u32) -> Result<u32, Refusal>
+    requires { InText text.now name }
+    ensures { answered same result ≡ judged limit (name_in text.now name) }
+{
+    count_at(text, name, limit).ok_or(Refusal {
+        fault: Fault::BadCount,
+        place: name.offset,
+    })
 }
 
 // What comes before reading: the ceiling for counts, and then the text's length.
-pub fn admit(text: &[u8], limit: u32) -> Admission
+pub fn admit(text: &[u8], limit: u32) -> Result<(), Refusal>
     ensures { AdmissionAs limit text.now result }
 {
     if 256 < limit {
-        return Admission::Refused(Refusal {
-            number: CEILING_TOO_HIGH,
+        return Err(Refusal {
+            fault: Fault::CeilingTooHigh,
             place: 0,
         });
     }
     if 16384 < text.len() {
-        return Admission::Refused(Refusal {
-            number: TOO_LONG,
+        return Err(Refusal {
+            fault: Fault::TooLong,
             place: 0,
         });
     }
-    Admission::Fine
+    Ok(())
 }

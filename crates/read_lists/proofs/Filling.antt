@@ -1,5 +1,6 @@
 -- Filling an array with a list's entries, one after the other.
 -- Assumes nothing.
+use Rattle.std.specs.Prelude.{Option, Some, None, unwrap_or}
 use mathlib.Core.Path.{◌≡◌, refl, ◌∙◌, ap, sym}
 use mathlib.Core.Bool.{true}
 use mathlib.Core.List.{List, [], ◌∷◌, ◌++◌, map}
@@ -14,6 +15,7 @@ use Rattle.read_forms.specs.declared.Name.{Name}
 use Rattle.read_forms.specs.declared.Kind.{Kind}
 use Rattle.read_forms.specs.declared.Kind.TheVariants.{Word, Number}
 use Rattle.read_forms.specs.declared.Items.{Items}
+use Rattle.read_forms.specs.Forms.{count_or0}
 use Rattle.read_forms.specs.Items.{tokens_from, kind_as, Entered, entries, after_entries, listed, items_in}
 use Rattle.read_forms.proofs.Entries.{entries-ahead, after_ahead, next-listed, entries-more, after_more}
 -- resolve_operands names it here
@@ -27,6 +29,11 @@ use Rattle.read_lists.specs.Lists.{kind_for, item_for}
 pub map-append : {A B : Type 0} (f : A → B) (xs ys : List A) → map f (xs ++ ys) ≡ map f xs ++ map f ys
 map-append f [] ys = refl
 map-append f (x ∷ xs) ys = ap (λ l. f x ∷ l) (map-append f xs ys)
+
+-- a count, or 0
+pub or0 : (o : Option ℕ) → unwrap_or o 0 ≡ count_or0 o
+or0 None = refl
+or0 (Some v) = refl
 
 -- a name's bytes are as many as it says
 pub own-length : (s : List ℕ) (n : Name) → InText s n → length (take n.length (drop n.offset s)) ≡ n.length

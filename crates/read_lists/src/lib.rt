@@ -9,7 +9,6 @@ ghost use Rattle.read_forms.specs.Forms.{count_or0, values_in};
 ghost use Rattle.read_forms.specs.Fits.{InText, Listed};
 ghost use Rattle.read_lists.specs.Lists.{items_for};
 
-use counts::Counted;
 use read_forms::{Item, Items, Kind, Name};
 use tokens::Classes;
 
@@ -31,15 +30,14 @@ pub fn items_of(text: &[u8], classes: &Classes, items: Items) -> [Item; 64]
     ensures { take items.count result ≡ items_for (items_in text.now items) }
 {
     let mut all = no_items();
-    let mut i = 0;
     let mut cur = items.first;
-    while i < items.count {
+    for i in 0..items.count {
         let entry = read_checks::entry_at(text, classes, cur);
-        let kind = entry.kind;
-        let name = entry.name;
-        all[i] = Item { kind, name };
+        all[i] = Item {
+            kind: entry.kind,
+            name: entry.name,
+        };
         cur = read_checks::after_entry(text, classes, entry);
-        i += 1;
     }
     all
 }
@@ -49,10 +47,7 @@ pub fn count_or_0(text: &[u8], name: Name) -> u32
     requires { InText text.now name }
     ensures { result ≡ count_or0 (count_of 4294967295 (name_in text.now name).spelling) }
 {
-    match read_forms::count_at(text, name, u32::MAX) {
-        Counted::Count(value) => value,
-        Counted::Refused => 0,
-    }
+    read_forms::count_at(text, name, u32::MAX).unwrap_or(0)
 }
 
 fn no_counts() -> [u32; 64]
@@ -67,13 +62,11 @@ pub fn counts_of(text: &[u8], classes: &Classes, items: Items) -> [u32; 64]
     ensures { take items.count result ≡ values_in (items_in text.now items) }
 {
     let mut counts = no_counts();
-    let mut n = 0;
     let mut cur = items.first;
-    while n < items.count {
+    for n in 0..items.count {
         let entry = read_checks::entry_at(text, classes, cur);
         counts[n] = count_or_0(text, entry.name);
         cur = read_checks::after_entry(text, classes, entry);
-        n += 1;
     }
     counts
 }

@@ -23,8 +23,5 @@ pub fn with_place(packed: u32, place: u32) -> u32
 pub fn is_one(packed: u32) -> bool
     ensures { result ≡ eqb (length (places packed)) 1 }
 {
-    if packed % 16 == 0 {
-        return false;
-    }
-    packed / 16 % 16 == 0
+    packed % 16 != 0 && packed / 16 % 16 == 0
 }

@@ -5,13 +5,12 @@ use Prim.Native.Nat.{ℕ}
 use native.Mathlib.Omega.{arith}
 use mathlib.Core.Path.{◌≡◌, refl, ◌∙◌, ap, sym}
 use mathlib.Core.Bool.{Bool, true, false, ◌&&◌, false≢true}
-use mathlib.Core.List.{List, [], ◌∷◌, ◌++◌, map}
+use mathlib.Core.List.{List, [], ◌∷◌, map}
 use borrow.Author.Tests.{ltb-true}
 use lib.ListN.{length, drop, length-take, length-drop}
 use Rattle.text.specs.Lists.{all}
 use Rattle.text.proofs.Tests.{and_left, and_right}
 use Rattle.reading.specs.Statement.{Item}
-use Rattle.reading.specs.Parts as reading
 use Rattle.reading_laws.specs.WellFormed.{one_to64, within_limit, well_named, well_item, well_part, well_parts, well_formed}
 use Rattle.reading_laws.specs.Spelled.{end_of, ends_before, placed_part, as_read}
 use Rattle.text.proofs.Passing.{all_left, all_right}

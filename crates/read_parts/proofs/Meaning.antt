@@ -9,11 +9,8 @@ use lib.Dec.{lit<}
 use lib.ListN.{length}
 use Rattle.labels.specs.Label.{keywords}
 use Rattle.reading.specs.Parts.{feature_parts, parts_of}
-use Rattle.read_forms.specs.declared.TransitCounts.{TransitCounts}
 use Rattle.read_forms.specs.declared.TransitCounts.TheVariants as transits
-use Rattle.read_forms.specs.declared.SomeModes.TheVariants as some_modes
-use Rattle.read_forms.specs.declared.SomeName.TheVariants as some_name
-use Rattle.read_forms.specs.declared.Feature.{Feature}
+use Rattle.std.specs.Prelude.{Some, None}
 use Rattle.read_forms.specs.declared.Feature.TheVariants.{
   Absorption,
   Elimination,
@@ -32,7 +29,7 @@ use Rattle.read_forms.specs.declared.Feature.TheVariants.{
 }
 use Rattle.read_forms.specs.declared.Statement.{Statement}
 use Rattle.read_forms.specs.declared.Statement.TheVariants as statement
-use Rattle.read_forms.specs.Forms.{transits_in, some_modes_in, some_name_in, feature_in, statement_in}
+use Rattle.read_forms.specs.Forms.{transits_in, some_in, feature_in, statement_in}
 use Rattle.read_parts.specs.Apart.{feature_apart, apart, is_written, no_counts, is_plain}
 use Rattle.read_parts.specs.Meaning.{parts_in}
 
@@ -46,20 +43,20 @@ pub record Taken (s : List ℕ) (st : Statement) : Type 0 where
   pub fourth : is_plain (apart st).fourth ≡ true
 
 pub taken : (s : List ℕ) (st : Statement) → Taken s st
-unfolding parts_in apart feature_apart statement_in feature_in parts_of feature_parts transits_in some_modes_in some_name_in keywords
+unfolding parts_in apart feature_apart statement_in feature_in parts_of feature_parts transits_in some_in keywords
 taken s (statement.Let n is) = record { mean = refl; written = refl; known = lit< tt; second = refl; third = refl; fourth = refl }
 taken s (statement.Feature (Absorption m)) = record { mean = refl; written = refl; known = lit< tt; second = refl; third = refl; fourth = refl }
 taken s (statement.Feature (Elimination m)) = record { mean = refl; written = refl; known = lit< tt; second = refl; third = refl; fourth = refl }
-taken s (statement.Feature (Peripherals c some_modes.Absent)) = record { mean = refl; written = refl; known = lit< tt; second = refl; third = refl; fourth = refl }
-taken s (statement.Feature (Peripherals c (some_modes.Given k))) = record { mean = refl; written = refl; known = lit< tt; second = refl; third = refl; fourth = refl }
-taken s (statement.Feature (Transits transits.N some_modes.Absent)) = record { mean = refl; written = refl; known = lit< tt; second = refl; third = refl; fourth = refl }
-taken s (statement.Feature (Transits transits.N (some_modes.Given d))) = record { mean = refl; written = refl; known = lit< tt; second = refl; third = refl; fourth = refl }
-taken s (statement.Feature (Transits (transits.Counts c) some_modes.Absent)) = record { mean = refl; written = refl; known = lit< tt; second = refl; third = refl; fourth = refl }
-taken s (statement.Feature (Transits (transits.Counts c) (some_modes.Given d))) = record { mean = refl; written = refl; known = lit< tt; second = refl; third = refl; fourth = refl }
+taken s (statement.Feature (Peripherals c None)) = record { mean = refl; written = refl; known = lit< tt; second = refl; third = refl; fourth = refl }
+taken s (statement.Feature (Peripherals c (Some k))) = record { mean = refl; written = refl; known = lit< tt; second = refl; third = refl; fourth = refl }
+taken s (statement.Feature (Transits transits.N None)) = record { mean = refl; written = refl; known = lit< tt; second = refl; third = refl; fourth = refl }
+taken s (statement.Feature (Transits transits.N (Some d))) = record { mean = refl; written = refl; known = lit< tt; second = refl; third = refl; fourth = refl }
+taken s (statement.Feature (Transits (transits.Counts c) None)) = record { mean = refl; written = refl; known = lit< tt; second = refl; third = refl; fourth = refl }
+taken s (statement.Feature (Transits (transits.Counts c) (Some d))) = record { mean = refl; written = refl; known = lit< tt; second = refl; third = refl; fourth = refl }
 taken s (statement.Feature (Lagtime m)) = record { mean = refl; written = refl; known = lit< tt; second = refl; third = refl; fourth = refl }
 taken s (statement.Feature (Covariate o p c e op)) = record { mean = refl; written = refl; known = lit< tt; second = refl; third = refl; fourth = refl }
-taken s (statement.Feature (Allometry n some_name.Absent)) = record { mean = refl; written = refl; known = lit< tt; second = refl; third = refl; fourth = refl }
-taken s (statement.Feature (Allometry n (some_name.Given r))) = record { mean = refl; written = refl; known = lit< tt; second = refl; third = refl; fourth = refl }
+taken s (statement.Feature (Allometry n None)) = record { mean = refl; written = refl; known = lit< tt; second = refl; third = refl; fourth = refl }
+taken s (statement.Feature (Allometry n (Some r))) = record { mean = refl; written = refl; known = lit< tt; second = refl; third = refl; fourth = refl }
 taken s (statement.Feature (DirectEffect m)) = record { mean = refl; written = refl; known = lit< tt; second = refl; third = refl; fourth = refl }
 taken s (statement.Feature (EffectComp m)) = record { mean = refl; written = refl; known = lit< tt; second = refl; third = refl; fourth = refl }
 taken s (statement.Feature (IndirectEffect m p)) = record { mean = refl; written = refl; known = lit< tt; second = refl; third = refl; fourth = refl }

@@ -1,5 +1,5 @@
 -- A form taken apart: its keyword's place, its `?` and its arguments in their order.
-use Rattle.std.specs.Prelude.{ℕ, Bool, true, false}
+use Rattle.std.specs.Prelude.{ℕ, Bool, true, false, Option, Some, None}
 use Rattle.labels.specs.declared.Family.{Family}
 use Rattle.labels.specs.declared.Family.TheVariants.{
   AbsorptionMode,
@@ -15,12 +15,9 @@ use Rattle.labels.specs.declared.Family.TheVariants.{
   VariabilityLevel,
 }
 use Rattle.read_forms.specs.declared.Modes as form
+use Rattle.read_forms.specs.declared.Name as name
 use Rattle.read_forms.specs.declared.TransitCounts.{TransitCounts}
 use Rattle.read_forms.specs.declared.TransitCounts.TheVariants as transits
-use Rattle.read_forms.specs.declared.SomeModes.{SomeModes}
-use Rattle.read_forms.specs.declared.SomeModes.TheVariants as some_modes
-use Rattle.read_forms.specs.declared.SomeName.{SomeName}
-use Rattle.read_forms.specs.declared.SomeName.TheVariants as some_name
 use Rattle.read_forms.specs.declared.Feature.{Feature}
 use Rattle.read_forms.specs.declared.Feature.TheVariants.{
   Absorption,
@@ -44,13 +41,13 @@ use Rattle.read_parts.specs.declared.Part.{Part}
 use Rattle.read_parts.specs.declared.Part.TheVariants.{Absent, Modes, Counts, N, Operand, Name, Values, Op, Omitted}
 use Rattle.read_parts.specs.declared.Parts.{Parts}
 
-abbrev pub some_modes_part : Family → SomeModes → Part
-some_modes_part f some_modes.Absent = Omitted
-some_modes_part f (some_modes.Given m) = Modes f m
+abbrev pub some_modes_part : Family → Option form.Modes → Part
+some_modes_part f None = Omitted
+some_modes_part f (Some m) = Modes f m
 
-abbrev pub some_name_part : SomeName → Part
-some_name_part some_name.Absent = Omitted
-some_name_part (some_name.Given n) = Name n
+abbrev pub some_name_part : Option name.Name → Part
+some_name_part None = Omitted
+some_name_part (Some n) = Name n
 
 abbrev pub transits_part : TransitCounts → Part
 transits_part transits.N = N

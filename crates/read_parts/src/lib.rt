@@ -7,8 +7,7 @@ ghost use Rattle.read_parts.specs.Apart.{some_modes_part, some_name_part, transi
 
 use labels::Family;
 use read_forms::{
-    Counts, CovariateOp, Feature, Items, Modes, Name, Operand, SomeModes, SomeName, Statement,
-    TransitCounts,
+    Counts, CovariateOp, Feature, Items, Modes, Name, Operand, Statement, TransitCounts,
 };
 
 // An argument of a statement: none where a feature has no more, or one that may be left out, and is.
@@ -36,21 +35,23 @@ pub struct Parts {
     pub fourth: Part,
 }
 
-fn some_modes(family: Family, modes: SomeModes) -> Part
+// Modes that may be left out.
+fn some_modes(family: Family, modes: Option<Modes>) -> Part
     ensures { result ≡ some_modes_part family modes }
 {
     match modes {
-        SomeModes::Absent => Part::Omitted,
-        SomeModes::Given(m) => Part::Modes(family, m),
+        None => Part::Omitted,
+        Some(m) => Part::Modes(family, m),
     }
 }
 
-fn some_name(name: SomeName) -> Part
+// A name that may be left out.
+fn some_name(name: Option<Name>) -> Part
     ensures { result ≡ some_name_part name }
 {
     match name {
-        SomeName::Absent => Part::Omitted,
-        SomeName::Given(n) => Part::Name(n),
+        None => Part::Omitted,
+        Some(n) => Part::Name(n),
     }
 }
 

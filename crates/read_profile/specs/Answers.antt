@@ -1,5 +1,5 @@
 -- What the answers of the profile's functions mean, as answers of its definition.
-use Rattle.std.specs.Prelude.{ℕ, ◌<◌, Bool, false, List}
+use Rattle.std.specs.Prelude.{Result, ℕ, ◌<◌, Bool, false, List}
 use Rattle.reading.specs.Answer.{Answer, accepted, refused}
 use Rattle.profiling.specs.Profile as profile
 use Rattle.profiling.specs.Profile.{Yes, high_counts, outside, plain, once}
@@ -8,8 +8,8 @@ use Rattle.read_parts.specs.declared.Part.{Part}
 use Rattle.read_parts.specs.declared.Part.TheVariants.{Absent, Modes, Counts, N, Operand, Name, Values, Op, Omitted}
 use Rattle.read_profile.specs.declared.Mark.{Mark}
 use Rattle.read_profile.specs.declared.Mark.TheVariants.{Outside, Plain, Once}
-use Rattle.read_profile.specs.declared.Profiled.{Profiled}
-use Rattle.read_profile.specs.declared.Profiled.TheVariants.{Fits, Refused}
+use Rattle.read_forms.specs.declared.Refusal.{Refusal}
+use Rattle.read_forms.specs.Faults.{answered}
 
 -- an argument with a count above 10
 abbrev pub high_part : List ℕ → Part → Bool
@@ -35,9 +35,8 @@ Numbered Plain = Unit {0}
 Numbered (Once k h) = k < 5
 
 -- What the call answers, for every text: its contract says that its answer means `profile_text limit text`.
-unfoldable pub profiled_as : Profiled → Answer Yes
-profiled_as Fits = accepted tt
-profiled_as (Refused r) = refused r.number r.place
+unfoldable pub profiled_as : Result Unit Refusal → Answer Yes
+profiled_as r = answered (λ (_ : Unit). tt) r
 
 -- yes, as a number
 abbrev pub yes_as_zero : Answer Yes → Answer ℕ

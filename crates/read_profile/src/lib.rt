@@ -18,38 +18,22 @@ ghost use Rattle.words.specs.Word.{word, Below};
 ghost use Rattle.read_profile.specs.Answers.{high_part, mark_as, Numbered, profiled_as, yes_as_zero};
 
 use labels::{Keywords, Labels};
-use read_forms::{Admission, Counts, Items, Refusal, Statement};
+use read_forms::{Counts, Fault, Items, Refusal, Statement};
 use read_parts::Part;
-use read_space::{Ending, Space};
+use read_space::Space;
 use tokens::Classes;
-
-// The faults of the profile by their numbers.
-pub const OUTSIDE_PROFILE: u8 = 22;
-
-pub const SECOND_STATEMENT: u8 = 23;
-
-pub const COUNT_ABOVE_TEN: u8 = 24;
 
 // The highest count that fits.
 const HIGHEST: u32 = 10;
 
-// That a text fits the profile, or why it does not.
-#[derive(Clone, Copy)]
-pub enum Profiled {
-    Fits,
-    Refused(Refusal),
-}
-
-impl Profiled {
-    // The profile's word for programs in other languages: yes is 0.
-    pub fn word(self) -> u64
-        requires { Below (yes_as_zero (profiled_as self)) }
-        ensures { result ≡ word (yes_as_zero (profiled_as self)) }
-    {
-        match self {
-            Profiled::Fits => words::number_word(0),
-            Profiled::Refused(refusal) => words::refusal_word(refusal),
-        }
+// The profile's word for programs in other languages: yes is 0.
+pub fn word_of(answer: Result<(), Refusal>) -> u64
+    requires { Below (yes_as_zero (profiled_as answer)) }
+    ensures { result ≡ word (yes_as_zero (profiled_as answer)) }
+{
+    match answer {
+        Ok(()) => words::word_of(Ok(0)),
+        Err(refusal) => words::word_of(Err(refusal)),
     }
 }
 
@@ -67,15 +51,13 @@ fn any_high(text: &[u8], classes: &Classes, items: Items) -> bool
     requires { (classes.now ≡ class_table) × Listed text.now items }
     ensures { result ≡ any is_high (values_in (items_in text.now items)) }
 {
-    let mut left = items.count;
     let mut cur = items.first;
-    while 0 < left {
+    for _done in 0..items.count {
         let entry = read_checks::entry_at(text, classes, cur);
         if HIGHEST < read_lists::count_or_0(text, entry.name) {
             return true;
         }
         cur = read_checks::after_entry(text, classes, entry);
-        left -= 1;
     }
     false
 }
@@ -110,54 +92,45 @@ fn mark_of(text: &[u8], classes: &Classes, statement: Statement) -> Mark
     ensures { (mark_as result ≡ mark_of (statement_in text.now statement)) × Numbered result }
 {
     let parts = read_parts::parts_of(statement);
-    let first = parts.first;
     let keyword = parts.keyword;
     match keyword {
-        0..=4 => Mark::Once(keyword, high_part(text, classes, first)),
+        0..=4 => Mark::Once(keyword, high_part(text, classes, parts.first)),
         7..=10 => Mark::Outside,
         _ => Mark::Plain,
     }
 }
 
-fn refused(number: u8, index: usize) -> Profiled
-    ensures { result ≡ Profiled.Refused (record { number = number; place = index }) }
+fn refused(fault: Fault, index: usize) -> Result<(), Refusal>
+    ensures { result ≡ Err (record { fault = fault; place = index }) }
 {
-    Profiled::Refused(Refusal {
-        number,
+    Err(Refusal {
+        fault,
         place: index,
     })
 }
 
 // The first statement that does not fit, and why.
-fn first_fault(text: &[u8], classes: &Classes, space: Space) -> Profiled
+fn first_fault(text: &[u8], classes: &Classes, space: Space) -> Result<(), Refusal>
     requires { (classes.now ≡ class_table) × Whole space × FitAll text.now space }
     ensures { profiled_as result ≡ profile_of (statements_in text.now space) }
 {
-    let forms = space.forms;
-    let count = space.count;
     let mut seen = [false; 5];
-    let mut i = 0;
-    while i < count {
-        let form = forms[i];
-        let statement = form.statement;
-        match mark_of(text, classes, statement) {
-            Mark::Outside => return refused(OUTSIDE_PROFILE, i),
-            Mark::Plain => {
-                i += 1;
-            }
+    for i in 0..space.count {
+        match mark_of(text, classes, space.forms[i].statement) {
+            Mark::Outside => return refused(Fault::OutsideProfile, i),
+            Mark::Plain => {}
             Mark::Once(feature, high) => {
                 if seen[feature] {
-                    return refused(SECOND_STATEMENT, i);
+                    return refused(Fault::SecondStatement, i);
                 }
                 if high {
-                    return refused(COUNT_ABOVE_TEN, i);
+                    return refused(Fault::CountAboveTen, i);
                 }
                 seen[feature] = true;
-                i += 1;
             }
         }
     }
-    Profiled::Fits
+    Ok(())
 }
 
 // What the profile says of a text that is admitted.
@@ -167,28 +140,20 @@ fn profile_admitted(
     labels: &Labels,
     keys: &Keywords,
     limit: u32,
-) -> Profiled
+) -> Result<(), Refusal>
     requires { (classes.now ≡ class_table) × (labels.now ≡ label_table) × (keys.now ≡ keyword_table) × Admitted limit text.now }
     ensures { profiled_as result ≡ profile_text limit text.now }
 {
     let space = read_space::read_space(text, classes, labels, keys, limit);
-    let ending = space.ending;
-    match ending {
-        Ending::Refused(r) => Profiled::Refused(r),
-        Ending::Accepted => first_fault(text, classes, space),
-    }
+    space.ending?;
+    first_fault(text, classes, space)
 }
 
 // Whether a text fits the profile, or why it does not: the faults of the whole text come before those of the profile.
-pub fn profile_under(text: &[u8], limit: u32) -> Profiled
+pub fn profile_under(text: &[u8], limit: u32) -> Result<(), Refusal>
     ensures { profiled_as result ≡ profile_text limit text.now }
 {
-    match read_forms::admit(text, limit) {
-        Admission::Refused(r) => {
-            return Profiled::Refused(r);
-        }
-        Admission::Fine => {}
-    }
+    read_forms::admit(text, limit)?;
     let classes = tokens::CLASSES;
     let labels = labels::LABELS;
     let keys = labels::KEYWORDS;

@@ -1,10 +1,10 @@
 -- What the statements that are kept stand for.
-use Rattle.std.specs.Prelude.{ℕ, ◌≤◌, List, map, ◌≡◌, length, take}
+use Rattle.std.specs.Prelude.{ℕ, ◌≤◌, List, map, ◌≡◌, length, take, Result}
 use Rattle.reading.specs.Statement.{Statement}
-use Rattle.reading.specs.Answer.{Answer, accepted, refused}
+use Rattle.reading.specs.Answer.{Answer}
 use Rattle.read_forms.specs.Forms.{statement_in}
-use Rattle.read_space.specs.declared.Ending.{Ending}
-use Rattle.read_space.specs.declared.Ending.TheVariants.{Accepted, Refused}
+use Rattle.read_forms.specs.declared.Refusal.{Refusal}
+use Rattle.read_forms.specs.Faults.{answered}
 use Rattle.read_space.specs.declared.Form.{Form}
 use Rattle.read_space.specs.declared.Space.{Space}
 
@@ -15,9 +15,8 @@ form_in s f = statement_in s f.statement
 abbrev pub statements_in : List ℕ → Space → List Statement
 statements_in s r = map (form_in s) (take r.count r.forms)
 
-abbrev pub ending_as : Ending → List Statement → Answer (List Statement)
-ending_as Accepted ss = accepted ss
-ending_as (Refused x) ss = refused x.number x.place
+abbrev pub ending_as : Result Unit Refusal → List Statement → Answer (List Statement)
+ending_as r ss = answered (λ (_ : Unit). ss) r
 
 unfoldable pub space_as : List ℕ → Space → Answer (List Statement)
 space_as s r = ending_as r.ending (statements_in s r)

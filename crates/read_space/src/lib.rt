@@ -10,15 +10,7 @@ ghost use Rattle.reading_laws.specs.Admitted.{Admitted};
 
 use labels::{Keywords, Labels};
 use read_forms::{Feature, Modes, Refusal, Statement};
-use read_statements::NextRead;
 use tokens::{Classes, Cursor};
-
-// How reading ended.
-#[derive(Clone, Copy)]
-pub enum Ending {
-    Accepted,
-    Refused(Refusal),
-}
 
 // A statement that is kept. (An array stands in a struct where its elements are structs, not where they are enums.)
 #[derive(Clone, Copy)]
@@ -26,10 +18,11 @@ pub struct Form {
     pub statement: Statement,
 }
 
-// The statements of a text, or why it is refused: an enum cannot hold an array, so the statements stand beside.
+// The statements of a text, and whether reading came to its end, or why it is refused. The statements stand beside: they are 60 KiB, which a Result
+// that holds them would hand on anew at each `?`.
 #[derive(Clone, Copy)]
 pub struct Space {
-    pub ending: Ending,
+    pub ending: Result<(), Refusal>,
     pub count: usize,
     pub forms: [Form; 256],
 }
@@ -63,22 +56,23 @@ pub fn read_space(
     let mut cur = Cursor::new();
     loop {
         match read_statements::next_statement(text, classes, labels, keys, cur, n, limit) {
-            NextRead::Statement(statement, after) => {
-                forms[n] = Form { statement };
-                cur = after;
+            Ok(Some(next)) => {
+                forms[n] = Form {
+                    statement: next.statement,
+                };
+                cur = next.cursor;
                 n += 1;
             }
-            NextRead::End => {
+            Ok(None) => {
                 return Space {
-                    ending: Ending::Accepted,
+                    ending: Ok(()),
                     count: n,
                     forms,
                 };
             }
-            NextRead::Refused(r) => {
-                let refusal = read_statements::earliest(text, classes, r);
+            Err(r) => {
                 return Space {
-                    ending: Ending::Refused(refusal),
+                    ending: Err(read_statements::earliest(text, classes, r)),
                     count: 0,
                     forms,
                 };

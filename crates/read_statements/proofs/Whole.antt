@@ -21,8 +21,10 @@ use Rattle.read_forms.specs.declared.Refusal.{Refusal}
 use Rattle.read_forms.specs.Items.{tokens_from}
 use Rattle.tokens.proofs.Steps.{token, at_end}
 use Rattle.tokens.proofs.Views.{Reads, Known, a_word, a_number, a_mark, a_stray, the_end}
-use Rattle.read_statements.specs.declared.NextRead.{NextRead}
-use Rattle.read_statements.specs.declared.NextRead.TheVariants as nextRead
+use Rattle.std.specs.Prelude.{Option, Some, None, Result, Ok, Err}
+use Rattle.read_statements.specs.declared.Next.{Next}
+use Rattle.read_forms.specs.declared.Fault.TheVariants.{Unexpected, TooMany}
+use Rattle.read_forms.specs.Faults.{number_of, refused_by}
 use Rattle.read_statements.specs.Answers.{reading_at, one_before, NextFrom, NextFurther, crowded_by}
 
 step_then :
@@ -59,12 +61,12 @@ unfolding read_from opened
 first_word limit size n o w ts h = simp (lt-leb 256 n h) (word_then limit size n ts (same_word w (bytes "LET")) _ _ _)
 
 -- a token that may not stand between statements
-either : {A : Type 0} (b : Bool) (p : ℕ) → ◌≡◌ {A = Answer A} (cond b (refused 11 p) (refused 3 p)) (refused (cond b 11 3) p)
+either : {A : Type 0} (b : Bool) (p : ℕ) → ◌≡◌ {A = Answer A} (cond b (refused 11 p) (refused 3 p)) (refused (number_of (cond b TooMany Unexpected)) p)
 either true p = refl
 either false p = refl
 
 abbrev pub refused_as : Refusal → Answer (List Statement)
-refused_as r = refused r.number r.place
+refused_as r = refused_by r
 
 module _ (limit : ℕ) (s : List ℕ) (n o : ℕ) (t : lexer.Token) where
   pub between_crowded :
@@ -123,14 +125,14 @@ ends_at (a_stray e r q) k = absurd (omega arith)
 ends_at (the_end e r l q) k = q
 
 -- A statement that ends behind an offset ends behind an earlier one.
-pub from_sooner : (s : List ℕ) (o p : ℕ) (r : NextRead) → NextFrom s p r → o ≤ p → NextFrom s o r
+pub from_sooner : (s : List ℕ) (o p : ℕ) (r : Result (Option Next) Refusal) → NextFrom s p r → o ≤ p → NextFrom s o r
 unfolding NextFrom
-from_sooner s o p (nextRead.Statement f c) h q = (omega (arith, h.0, q), h.1)
-from_sooner s o p nextRead.End h q = tt
-from_sooner s o p (nextRead.Refused r) h q = tt
+from_sooner s o p (Ok (Some f)) h q = (omega (arith, h.0, q), h.1)
+from_sooner s o p (Ok None) h q = tt
+from_sooner s o p (Err r) h q = tt
 
-pub from_further : (s : List ℕ) (n o p : ℕ) (r : NextRead) → NextFrom s p r → o < p → n < 256 → NextFurther s n o r
+pub from_further : (s : List ℕ) (n o p : ℕ) (r : Result (Option Next) Refusal) → NextFrom s p r → o < p → n < 256 → NextFurther s n o r
 unfolding NextFrom NextFurther
-from_further s n o p (nextRead.Statement f c) h q k = (omega (arith, h.0, q), h.1, k)
-from_further s n o p nextRead.End h q k = tt
-from_further s n o p (nextRead.Refused r) h q k = tt
+from_further s n o p (Ok (Some f)) h q k = (omega (arith, h.0, q), h.1, k)
+from_further s n o p (Ok None) h q k = tt
+from_further s n o p (Err r) h q k = tt

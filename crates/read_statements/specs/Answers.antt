@@ -1,5 +1,5 @@
 -- What the answers of the functions that read statements mean, as answers of the definition of reading.
-use Rattle.std.specs.Prelude.{ℕ, suc, ◌<◌, ◌≤◌, cond, List, [], ◌≡◌, eqb, leb, length}
+use Rattle.std.specs.Prelude.{Option, Some, None, Result, Ok, Err, ℕ, suc, ◌<◌, ◌≤◌, cond, List, [], ◌≡◌, eqb, leb, length}
 use Rattle.tokens.specs.declared.Token as lexer
 use Rattle.tokens.specs.Next.{token_at}
 use Rattle.reading.specs.Statement.{Statement}
@@ -8,12 +8,12 @@ use Rattle.reading.specs.Read.{Where, between, prepend, read_from, read_text}
 use Rattle.reading_laws.specs.Admitted.{Admitted}
 use Rattle.reading.specs.One.{One, whole, halted}
 use Rattle.read_forms.specs.declared.Refusal.{Refusal}
+use Rattle.read_forms.specs.declared.Fault.TheVariants.{BadByte, Unexpected, TooMany}
+use Rattle.read_forms.specs.Faults.{refused_by}
 use Rattle.read_forms.specs.Items.{tokens_from}
 use Rattle.read_forms.specs.Forms.{statement_in}
-use Rattle.read_statements.specs.declared.Ended.{Ended}
-use Rattle.read_statements.specs.declared.Ended.TheVariants as ended
-use Rattle.read_statements.specs.declared.NextRead.{NextRead}
-use Rattle.read_statements.specs.declared.NextRead.TheVariants as nextRead
+use Rattle.tokens.specs.declared.Cursor.{Cursor}
+use Rattle.read_statements.specs.declared.Next.{Next}
 
 -- the statements of a text from an offset on, after so many
 abbrev pub reading_at : ℕ → List ℕ → ℕ → Where → ℕ → Answer (List Statement)
@@ -34,38 +34,38 @@ pub record FirstToken (s : List ℕ) (o : ℕ) (t : lexer.Token) : Type 0 where
 
 -- a token that is not allowed between statements, after so many of them
 abbrev pub crowded_by : lexer.Token → ℕ → Refusal
-crowded_by t n = record { number = cond (eqb t.kind 2) 2 (cond (leb 256 n) 11 3); place = t.start }
+crowded_by t n = record { fault = cond (eqb t.kind 2) BadByte (cond (leb 256 n) TooMany Unexpected); place = t.start }
 
 -- what stands behind a statement, and where: from there on the next statement is sought
-unfoldable pub EndedThen : ℕ → List ℕ → ℕ → ℕ → Ended → Type 0
-EndedThen limit s n o (ended.Fine c) = reading_at limit s n Where.ended o ≡ reading_at limit s n between c.at
-EndedThen limit s n o (ended.Refused r) = reading_at limit s n Where.ended o ≡ refused r.number r.place
+unfoldable pub EndedThen : ℕ → List ℕ → ℕ → ℕ → Result Cursor Refusal → Type 0
+EndedThen limit s n o (Ok c) = reading_at limit s n Where.ended o ≡ reading_at limit s n between c.at
+EndedThen limit s n o (Err r) = reading_at limit s n Where.ended o ≡ refused_by r
 
-unfoldable pub EndedFurther : List ℕ → ℕ → Ended → Type 0
-EndedFurther s o (ended.Fine c) = (o ≤ length s → o ≤ c.at) × (c.at ≤ length s)
-EndedFurther s o (ended.Refused r) = Unit {0}
+unfoldable pub EndedFurther : List ℕ → ℕ → Result Cursor Refusal → Type 0
+EndedFurther s o (Ok c) = (o ≤ length s → o ≤ c.at) × (c.at ≤ length s)
+EndedFurther s o (Err r) = Unit {0}
 
 -- the next statement with what follows it, or the text's end
-unfoldable pub next_then : ℕ → List ℕ → ℕ → NextRead → Answer (List Statement)
-next_then limit s n (nextRead.Statement f c) = prepend (statement_in s f) (reading_at limit s (suc n) between c.at)
-next_then limit s n nextRead.End = accepted []
-next_then limit s n (nextRead.Refused r) = refused r.number r.place
+unfoldable pub next_then : ℕ → List ℕ → ℕ → Result (Option Next) Refusal → Answer (List Statement)
+next_then limit s n (Ok (Some f)) = prepend (statement_in s f.statement) (reading_at limit s (suc n) between f.cursor.at)
+next_then limit s n (Ok None) = accepted []
+next_then limit s n (Err r) = refused_by r
 
 -- it ends in the text, at an offset or behind it
-unfoldable pub NextFrom : List ℕ → ℕ → NextRead → Type 0
-NextFrom s o (nextRead.Statement f c) = (o ≤ c.at) × (c.at ≤ length s)
-NextFrom s o nextRead.End = Unit {0}
-NextFrom s o (nextRead.Refused r) = Unit {0}
+unfoldable pub NextFrom : List ℕ → ℕ → Result (Option Next) Refusal → Type 0
+NextFrom s o (Ok (Some f)) = (o ≤ f.cursor.at) × (f.cursor.at ≤ length s)
+NextFrom s o (Ok None) = Unit {0}
+NextFrom s o (Err r) = Unit {0}
 
-unfoldable pub NextFurther : List ℕ → ℕ → ℕ → NextRead → Type 0
-NextFurther s n o (nextRead.Statement f c) = (o < c.at) × (c.at ≤ length s) × (n < 256)
-NextFurther s n o nextRead.End = Unit {0}
-NextFurther s n o (nextRead.Refused r) = Unit {0}
+unfoldable pub NextFurther : List ℕ → ℕ → ℕ → Result (Option Next) Refusal → Type 0
+NextFurther s n o (Ok (Some f)) = (o < f.cursor.at) × (f.cursor.at ≤ length s) × (n < 256)
+NextFurther s n o (Ok None) = Unit {0}
+NextFurther s n o (Err r) = Unit {0}
 
 -- what the refusal of a text's statements is for the whole text, where that is admitted
 abbrev pub FirstFault : List ℕ → Refusal → Refusal → Type 0
 FirstFault s x r =
     (limit : ℕ)
     → Admitted limit s
-    → reading_at limit s 0 between 0 ≡ refused x.number x.place
-    → read_text limit s ≡ refused r.number r.place
+    → reading_at limit s 0 between 0 ≡ refused_by x
+    → read_text limit s ≡ refused_by r

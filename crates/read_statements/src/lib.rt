@@ -20,25 +20,15 @@ ghost use Rattle.read_arguments.specs.Answers.{step_in};
 ghost use Rattle.read_statements.specs.Answers.{one_before, NextFrom, FirstToken, EndedThen, EndedFurther, crowded_by, reading_at, next_then, NextFurther, FirstFault};
 
 use labels::{Keywords, Labels};
-use read_checks::ItemsRead;
-use read_features::Built;
-use read_forms::{Arg, Args, Name, Refusal, Statement};
-use read_syntax::{CallRead, Head};
-use tokens::{Classes, Cursor, Scanned, Token};
+use read_forms::{Arg, Args, Fault, Name, Refusal, Statement};
+use read_syntax::Head;
+use tokens::{Classes, Cursor, Token};
 
-// Whether a statement may end where it does, and if so the cursor from which reading goes on.
+// A statement with the cursor behind it.
 #[derive(Clone, Copy)]
-pub enum Ended {
-    Fine(Cursor),
-    Refused(Refusal),
-}
-
-// The next statement with the cursor behind it, the text's end, or a refusal.
-#[derive(Clone, Copy)]
-pub enum NextRead {
-    Statement(Statement, Cursor),
-    End,
-    Refused(Refusal),
+pub struct Next {
+    pub statement: Statement,
+    pub cursor: Cursor,
 }
 
 // Whether a keyword is LET, ignoring case.
@@ -46,9 +36,7 @@ fn is_let(text: &[u8], name: Name) -> bool
     requires { InText text.now name }
     ensures { result ≡ same_word (name_in text.now name).spelling (bytes "LET") }
 {
-    let start = name.offset;
-    let end = start + name.length;
-    labels::same_word(&text[start..end], b"LET")
+    labels::same_word(read_forms::spelling(text, name), b"LET")
 }
 
 // The first token, from the cursor on, that is no separator. Blanks and comments stand here more often than anywhere else.
@@ -66,22 +54,19 @@ fn first_token(text: &[u8], classes: &Classes, cur: Cursor) -> Token
     }
 }
 
-// What stands behind the statement that is the `n`th: a separator, or the text's end. It is passed, with the blanks and the comment before
-// it, so that the next statement is not sought through them again.
-fn behind(text: &[u8], classes: &Classes, cur: Cursor, n: usize) -> Ended
+// The cursor behind what stands behind the statement that is the `n`th: a separator, or the text's end. It is passed, with the blanks and the
+// comment before it, so that the next statement is not sought through them again.
+fn behind(text: &[u8], classes: &Classes, cur: Cursor, n: usize) -> Result<Cursor, Refusal>
     requires { classes.now ≡ class_table }
     ensures by_index { (limit : ℕ) → EndedThen limit text.now n cur.at result }
     ensures ended_further { EndedFurther text.now cur.at result }
 {
     let token = cur.token(text, classes);
     let next = token.next;
-    if token.kind == b';' {
-        return Ended::Fine(next);
+    if token.kind == b';' || token.kind == tokens::END {
+        return Ok(next);
     }
-    if token.kind == tokens::END {
-        return Ended::Fine(next);
-    }
-    Ended::Refused(crowded(token, n))
+    Err(crowded(token, n))
 }
 
 // A token that is not allowed between statements: after 256 of them it is refused by 11.
@@ -90,34 +75,41 @@ fn crowded(token: Token, n: usize) -> Refusal
 {
     if token.kind == tokens::BAD {
         return Refusal {
-            number: read_forms::BAD_BYTE,
+            fault: Fault::BadByte,
             place: token.start,
         };
     }
     if 256 <= n {
         return Refusal {
-            number: read_forms::TOO_MANY,
+            fault: Fault::TooMany,
             place: token.start,
         };
     }
     Refusal {
-        number: read_forms::UNEXPECTED,
+        fault: Fault::Unexpected,
         place: token.start,
     }
 }
 
 // A statement that is read to its `)`, where `n` were read before it: with what may stand behind it, it is the next one.
-fn completed(text: &[u8], classes: &Classes, form: Statement, cur: Cursor, n: usize) -> NextRead
+fn completed(
+    text: &[u8],
+    classes: &Classes,
+    form: Statement,
+    cur: Cursor,
+    n: usize,
+) -> Result<Option<Next>, Refusal>
     requires { (classes.now ≡ class_table) × (n < 256) × (cur.at ≤ length text.now) }
     ensures by_index { (limit : ℕ)
         → one_before limit (length text.now) n (whole (statement_in text.now form) (tokens_from text.now cur.at))
         ≡ next_then limit text.now n result }
     ensures next_from { NextFrom text.now cur.at result }
 {
-    match behind(text, classes, cur, n + 1) {
-        Ended::Fine(next) => NextRead::Statement(form, next),
-        Ended::Refused(r) => NextRead::Refused(r),
-    }
+    let cursor = behind(text, classes, cur, n + 1)?;
+    Ok(Some(Next {
+        statement: form,
+        cursor,
+    }))
 }
 
 // A LET that is read to its `)`.
@@ -128,7 +120,7 @@ fn let_statement(
     arg: Arg,
     cur: Cursor,
     n: usize,
-) -> NextRead
+) -> Result<Option<Next>, Refusal>
     requires { (classes.now ≡ class_table) × Fits text.now arg × (n < 256) × (cur.at ≤ length text.now) }
     ensures by_index { (limit : ℕ)
         → one_before limit (length text.now) n
@@ -136,16 +128,8 @@ fn let_statement(
         ≡ next_then limit text.now n result }
     ensures next_from { NextFrom text.now cur.at result }
 {
-    match read_checks::items_of(arg) {
-        ItemsRead::Items(values) => completed(
-            text,
-            classes,
-            Statement::Let { name, values },
-            cur,
-            n,
-        ),
-        ItemsRead::Refused(r) => NextRead::Refused(r),
-    }
+    let values = read_checks::items_of(arg)?;
+    completed(text, classes, Statement::Let { name, values }, cur, n)
 }
 
 // A feature's statement that is read to its `)`.
@@ -160,7 +144,7 @@ fn feature_statement(
     cur: Cursor,
     n: usize,
     limit: u32,
-) -> NextRead
+) -> Result<Option<Next>, Refusal>
     requires classes_value { (classes.now ≡ class_table) × (labels.now ≡ label_table) × (keys.now ≡ keyword_table) }
     requires in_text { InText text.now name × AllFit text.now args × (n < 256) × (cur.at ≤ length text.now) }
     ensures at_value { one_before limit (length text.now) n
@@ -169,10 +153,8 @@ fn feature_statement(
         ≡ next_then limit text.now n result }
     ensures next_from { NextFrom text.now cur.at result }
 {
-    match read_features::build(text, classes, labels, keys, name, args, optional, limit) {
-        Built::Feature(feature) => completed(text, classes, Statement::Feature(feature), cur, n),
-        Built::Refused(r) => NextRead::Refused(r),
-    }
+    let feature = read_features::build(text, classes, labels, keys, name, args, optional, limit)?;
+    completed(text, classes, Statement::Feature(feature), cur, n)
 }
 
 // A statement behind its first word, where `n` were read before.
@@ -185,28 +167,23 @@ fn statement(
     cur: Cursor,
     n: usize,
     limit: u32,
-) -> NextRead
+) -> Result<Option<Next>, Refusal>
     requires { (classes.now ≡ class_table) × (labels.now ≡ label_table) × (keys.now ≡ keyword_table) × InText text.now name × (n < 256) }
     ensures at_value { one_before limit (length text.now) n
         (step_in limit text.now (opened name.offset (word (name_in text.now name).spelling)) cur.at)
         ≡ next_then limit text.now n result }
     ensures next_from { NextFrom text.now (suc cur.at) result }
 {
-    match read_syntax::read_call(text, classes, cur, is_let(text, name), limit) {
-        CallRead::Call { head, args, next } => match head {
-            Head::Feature(optional) => feature_statement(
-                text, classes, labels, keys, name, optional, args, next, n, limit,
-            ),
-            Head::Let(named) => {
-                let arg = args.first;
-                let_statement(text, classes, named, arg, next, n)
-            }
-        },
-        CallRead::Refused(r) => NextRead::Refused(r),
+    let call = read_syntax::read_call(text, classes, cur, is_let(text, name), limit)?;
+    match call.head {
+        Head::Feature(optional) => feature_statement(
+            text, classes, labels, keys, name, optional, call.args, call.next, n, limit,
+        ),
+        Head::Let(named) => let_statement(text, classes, named, call.args.first, call.next, n),
     }
 }
 
-// The next statement, where `n` were read before.
+// The next statement, where `n` were read before; none at the text's end.
 pub fn next_statement(
     text: &[u8],
     classes: &Classes,
@@ -215,24 +192,20 @@ pub fn next_statement(
     cur: Cursor,
     n: usize,
     limit: u32,
-) -> NextRead
+) -> Result<Option<Next>, Refusal>
     requires { (classes.now ≡ class_table) × (labels.now ≡ label_table) × (keys.now ≡ keyword_table) × (n ≤ cur.at) }
     ensures at_value { reading_at limit text.now n between cur.at ≡ next_then limit text.now n result }
     ensures next_further { NextFurther text.now n cur.at result }
 {
     let token = first_token(text, classes, cur);
     if token.kind == tokens::END {
-        return NextRead::End;
+        return Ok(None);
     }
-    if 256 <= n {
-        return NextRead::Refused(crowded(token, n));
+    if 256 <= n || token.kind != tokens::WORD {
+        return Err(crowded(token, n));
     }
-    if token.kind != tokens::WORD {
-        return NextRead::Refused(crowded(token, n));
-    }
-    let next = token.next;
     let name = read_arguments::named(token);
-    statement(text, classes, labels, keys, name, next, n, limit)
+    statement(text, classes, labels, keys, name, token.next, n, limit)
 }
 
 // The refusal of a text whose statements were refused: a byte that starts no token comes before every other fault but the length.
@@ -241,10 +214,10 @@ pub fn earliest(text: &[u8], classes: &Classes, refusal: Refusal) -> Refusal
     ensures { FirstFault text.now refusal result }
 {
     match tokens::scan(text, classes) {
-        Scanned::Stray(at) => Refusal {
-            number: read_forms::BAD_BYTE,
+        Some(at) => Refusal {
+            fault: Fault::BadByte,
             place: at,
         },
-        Scanned::Whole => refusal,
+        None => refusal,
     }
 }

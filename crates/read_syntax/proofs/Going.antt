@@ -1,6 +1,6 @@
 -- How the reading of arguments goes on from one to the next, and where it ends.
 -- Assumes nothing.
-use mathlib.Core.Path.{◌≡◌, refl, ap, sym, subst}
+use mathlib.Core.Path.{◌≡◌, refl, ap, sym}
 use mathlib.Core.Bool.{true, false}
 use mathlib.Core.List.{List, [], ◌∷◌, ◌++◌}
 use Prim.Native.Nat.{ℕ, ◌≤◌}
@@ -16,29 +16,29 @@ use Rattle.read_arguments.specs.Answers.{step_in}
 use Rattle.read_syntax.specs.declared.Head.{Head}
 use Rattle.read_syntax.specs.declared.Head.TheVariants as head
 use Rattle.read_syntax.specs.declared.Opened.{Opened}
-use Rattle.read_syntax.specs.declared.Opened.TheVariants as opened
 use Rattle.read_syntax.specs.declared.CallRead.{CallRead}
-use Rattle.read_syntax.specs.declared.CallRead.TheVariants as callRead
+use Rattle.std.specs.Prelude.{Result, Ok, Err}
+use Rattle.read_forms.specs.declared.Refusal.{Refusal}
 use Rattle.read_syntax.specs.Answers.{call_of, call_made, takes_one, misplaced, OpenedFurther, call_then, CallFurther}
 use Rattle.read_syntax.proofs.Held.{Holds, held_build}
 
-pub call_further : (s : List ℕ) (o p : ℕ) (r : CallRead) → o ≤ p → CallFurther s p r → CallFurther s o r
+pub call_further : (s : List ℕ) (o p : ℕ) (r : Result CallRead Refusal) → o ≤ p → CallFurther s p r → CallFurther s o r
 unfolding CallFurther
-call_further s o p (callRead.Call h xs n) q f = (omega (arith, f.0), f.1, f.2)
-call_further s o p (callRead.Refused r) q f = f
+call_further s o p (Ok c) q f = (omega (arith, f.0), f.1, f.2)
+call_further s o p (Err r) q f = f
 
-pub opened-further : (s : List ℕ) (o p : ℕ) (r : Opened) → o ≤ p → OpenedFurther s p r → OpenedFurther s o r
+pub opened-further : (s : List ℕ) (o p : ℕ) (r : Result Opened Refusal) → o ≤ p → OpenedFurther s p r → OpenedFurther s o r
 unfolding OpenedFurther
-opened-further s o p (opened.Call h n) q f = (omega (arith, f.0), f.1)
-opened-further s o p (opened.Refused r) q f = f
+opened-further s o p (Ok c) q f = (omega (arith, f.0), f.1)
+opened-further s o p (Err r) q f = f
 
 -- a mark that is not allowed ends the reading
 pub misplaced_then :
-    (limit o p n : ℕ) (s : List ℕ) (r : CallRead)
+    (limit o p n : ℕ) (s : List ℕ) (r : Refusal)
     → r ≡ misplaced p
-    → ((k : Name) → step_in limit s (wrong p) n ≡ call_then limit s k r) × CallFurther s o r
+    → ((k : Name) → step_in limit s (wrong p) n ≡ call_then limit s k (Err r)) × CallFurther s o (Err r)
 unfolding call_then CallFurther
-misplaced_then limit o p n s r e = ((λ k. ap (call_then limit s k) (sym e)), subst (CallFurther s o) (sym e) tt)
+misplaced_then limit o p n s r e = ((λ k. ap (λ (q : Refusal). call_then limit s k (Err q)) (sym e)), tt)
 
 module _ (s : List ℕ) (k : Name) where
   -- a `,` behind an argument: a LET has no second one

@@ -1,11 +1,13 @@
 -- What the answers of the functions that read a statement behind its keyword mean.
-use Rattle.std.specs.Prelude.{ℕ, ◌<◌, ◌≤◌, Bool, true, false, List, [], length}
+use Rattle.std.specs.Prelude.{Result, Ok, Err, ℕ, ◌<◌, ◌≤◌, Bool, true, false, List, [], length}
 use Rattle.reading.specs.Statement.{Name}
 use Rattle.reading.specs.Argument.{Arg, items_of}
 use Rattle.reading.specs.Feature.{build_feature}
 use Rattle.reading.specs.Syntax.{Call, feature_call, let_call, Step, argument, feature_made, let_made}
 use Rattle.reading.specs.One.{One}
 use Rattle.read_forms.specs.declared.Args.{Args}
+use Rattle.read_forms.specs.declared.Refusal.{Refusal}
+use Rattle.read_forms.specs.declared.Fault.TheVariants.{Unexpected}
 use Rattle.read_forms.specs.Items.{name_in}
 use Rattle.read_forms.specs.Forms.{arg_in, args_in}
 use Rattle.read_forms.specs.Fits.{AllFit}
@@ -13,9 +15,7 @@ use Rattle.read_arguments.specs.Answers.{read_in, step_in, refused_by}
 use Rattle.read_syntax.specs.declared.Head.{Head}
 use Rattle.read_syntax.specs.declared.Head.TheVariants as head
 use Rattle.read_syntax.specs.declared.Opened.{Opened}
-use Rattle.read_syntax.specs.declared.Opened.TheVariants as opened
 use Rattle.read_syntax.specs.declared.CallRead.{CallRead}
-use Rattle.read_syntax.specs.declared.CallRead.TheVariants as callRead
 
 -- what the arguments of a keyword belong to, with those before; a LET has none before its one
 abbrev pub call_of : List ℕ → Name → Head → List Arg → Call
@@ -33,23 +33,23 @@ takes_one (head.Feature m) = false
 takes_one (head.Let n) = true
 
 -- a mark that is not allowed
-abbrev pub misplaced : ℕ → CallRead
-misplaced o = callRead.Refused (record { number = 3; place = o })
+abbrev pub misplaced : ℕ → Refusal
+misplaced o = record { fault = Unexpected; place = o }
 
 -- what stands between a statement's keyword and its arguments
-unfoldable pub opened_then : ℕ → List ℕ → Name → Opened → One
-opened_then limit s k (opened.Call h n) = read_in limit s (argument (call_of s k h [])) n.at
-opened_then limit s k (opened.Refused r) = refused_by r
+unfoldable pub opened_then : ℕ → List ℕ → Name → Result Opened Refusal → One
+opened_then limit s k (Ok c) = read_in limit s (argument (call_of s k c.head [])) c.next.at
+opened_then limit s k (Err r) = refused_by r
 
-unfoldable pub OpenedFurther : List ℕ → ℕ → Opened → Type 0
-OpenedFurther s o (opened.Call h n) = (o < n.at) × (n.at ≤ length s)
-OpenedFurther s o (opened.Refused r) = Unit {0}
+unfoldable pub OpenedFurther : List ℕ → ℕ → Result Opened Refusal → Type 0
+OpenedFurther s o (Ok c) = (o < c.next.at) × (c.next.at ≤ length s)
+OpenedFurther s o (Err r) = Unit {0}
 
 -- a statement behind its keyword
-unfoldable pub call_then : ℕ → List ℕ → Name → CallRead → One
-call_then limit s k (callRead.Call h xs n) = step_in limit s (call_made limit s k h xs) n.at
-call_then limit s k (callRead.Refused r) = refused_by r
+unfoldable pub call_then : ℕ → List ℕ → Name → Result CallRead Refusal → One
+call_then limit s k (Ok c) = step_in limit s (call_made limit s k c.head c.args) c.next.at
+call_then limit s k (Err r) = refused_by r
 
-unfoldable pub CallFurther : List ℕ → ℕ → CallRead → Type 0
-CallFurther s o (callRead.Call h xs n) = (o < n.at) × (n.at ≤ length s) × AllFit s xs
-CallFurther s o (callRead.Refused r) = Unit {0}
+unfoldable pub CallFurther : List ℕ → ℕ → Result CallRead Refusal → Type 0
+CallFurther s o (Ok c) = (o < c.next.at) × (c.next.at ≤ length s) × AllFit s c.args
+CallFurther s o (Err r) = Unit {0}

@@ -10,7 +10,7 @@ ghost use Rattle.read_arguments.specs.Answers.{read_in};
 ghost use Rattle.read_syntax.specs.Answers.{call_of, takes_one, misplaced, opened_then, OpenedFurther, call_then, CallFurther};
 
 use read_arguments::{After, ArgRead};
-use read_forms::{Arg, Args, Name, Refusal};
+use read_forms::{Arg, Args, Fault, Name, Refusal};
 use tokens::{Classes, Cursor};
 
 // What arguments belong to: a feature, with whether a `?` stands behind its keyword, or a LET with its name.
@@ -20,22 +20,20 @@ pub enum Head {
     Let(Name),
 }
 
-// What stands between a statement's keyword and its arguments: `(`, or `?` and `(`, of a feature; `(`, a name and `,` of a LET.
+// What stands between a statement's keyword and its arguments: `(`, or `?` and `(`, of a feature; `(`, a name and `,` of a LET. The cursor stands
+// behind it.
 #[derive(Clone, Copy)]
-enum Opened {
-    Call { head: Head, next: Cursor },
-    Refused(Refusal),
+struct Opened {
+    head: Head,
+    next: Cursor,
 }
 
-// The rest of a statement behind its keyword.
+// The rest of a statement behind its keyword, with the cursor behind its `)`.
 #[derive(Clone, Copy)]
-pub enum CallRead {
-    Call {
-        head: Head,
-        args: Args,
-        next: Cursor,
-    },
-    Refused(Refusal),
+pub struct CallRead {
+    pub head: Head,
+    pub args: Args,
+    pub next: Cursor,
 }
 
 // A LET has one argument; a feature may have any number.
@@ -49,17 +47,23 @@ fn takes_one(head: Head) -> bool
 }
 
 // A `,` or a `)` that may not stand where it does.
-fn misplaced_at(at: usize) -> CallRead
+fn misplaced_at(at: usize) -> Refusal
     ensures { result ≡ misplaced at }
 {
-    CallRead::Refused(Refusal {
-        number: read_forms::UNEXPECTED,
+    Refusal {
+        fault: Fault::Unexpected,
         place: at,
-    })
+    }
 }
 
 // The arguments, up to the `)`: they stand apart until then, so that none is copied for the next; past the fourth only their number is kept.
-fn read_args(text: &[u8], classes: &Classes, cur: Cursor, head: Head, limit: u32) -> CallRead
+fn read_args(
+    text: &[u8],
+    classes: &Classes,
+    cur: Cursor,
+    head: Head,
+    limit: u32,
+) -> Result<CallRead, Refusal>
     requires { classes.now ≡ class_table }
     ensures at_value { (k : Name·spec)
         → read_in limit text.now (argument·state (call_of text.now k head [])) cur.at ≡ call_then limit text.now k result }
@@ -73,7 +77,7 @@ fn read_args(text: &[u8], classes: &Classes, cur: Cursor, head: Head, limit: u32
     let mut fourth = Arg::Star(0);
     let mut from = cur;
     loop {
-        match read_arguments::argument(text, classes, from, limit) {
+        match read_arguments::argument(text, classes, from, limit)? {
             ArgRead::Arg(arg, end) => {
                 match count {
                     0 => first = arg,
@@ -83,55 +87,44 @@ fn read_args(text: &[u8], classes: &Classes, cur: Cursor, head: Head, limit: u32
                     _ => {}
                 }
                 count += 1;
-                match read_arguments::after_argument(text, classes, end) {
+                match read_arguments::after_argument(text, classes, end)? {
                     After::Comma { at: o, next } => {
                         if one {
-                            return misplaced_at(o);
+                            return Err(misplaced_at(o));
                         }
                         from = next;
                     }
                     After::Close(next) => {
-                        return CallRead::Call {
-                            head,
-                            args: Args {
-                                count,
-                                first,
-                                second,
-                                third,
-                                fourth,
-                            },
-                            next,
+                        let args = Args {
+                            count,
+                            first,
+                            second,
+                            third,
+                            fourth,
                         };
+                        return Ok(CallRead { head, args, next });
                     }
-                    After::Refused(r) => return CallRead::Refused(r),
                 }
             }
             ArgRead::Close { at: o, next } => {
-                if one {
-                    return misplaced_at(o);
+                if one || count != 0 {
+                    return Err(misplaced_at(o));
                 }
-                if count != 0 {
-                    return misplaced_at(o);
-                }
-                return CallRead::Call {
-                    head,
-                    args: Args {
-                        count,
-                        first,
-                        second,
-                        third,
-                        fourth,
-                    },
-                    next,
+                let args = Args {
+                    count,
+                    first,
+                    second,
+                    third,
+                    fourth,
                 };
+                return Ok(CallRead { head, args, next });
             }
-            ArgRead::Refused(r) => return CallRead::Refused(r),
         }
     }
 }
 
 // A feature's statement behind its keyword, up to its first argument.
-fn open_feature(text: &[u8], classes: &Classes, cur: Cursor) -> Opened
+fn open_feature(text: &[u8], classes: &Classes, cur: Cursor) -> Result<Opened, Refusal>
     requires { classes.now ≡ class_table }
     ensures by_index { (limit : ℕ) (k : Name·spec)
         → read_in limit text.now (keyword k) cur.at ≡ opened_then limit text.now k result }
@@ -140,27 +133,27 @@ fn open_feature(text: &[u8], classes: &Classes, cur: Cursor) -> Opened
     let token = cur.token(text, classes);
     let next = token.next;
     if token.kind == b'(' {
-        return Opened::Call {
+        return Ok(Opened {
             head: Head::Feature(false),
             next,
-        };
+        });
     }
     if token.kind != b'?' {
-        return Opened::Refused(read_arguments::unexpected(token));
+        return Err(read_arguments::unexpected(token));
     }
     let second = next.token(text, classes);
     let after = second.next;
     if second.kind != b'(' {
-        return Opened::Refused(read_arguments::unexpected(second));
+        return Err(read_arguments::unexpected(second));
     }
-    Opened::Call {
+    Ok(Opened {
         head: Head::Feature(true),
         next: after,
-    }
+    })
 }
 
 // A LET behind its keyword and its `(`: its name, and a `,`.
-fn let_name(text: &[u8], classes: &Classes, cur: Cursor) -> Opened
+fn let_name(text: &[u8], classes: &Classes, cur: Cursor) -> Result<Opened, Refusal>
     requires { classes.now ≡ class_table }
     ensures by_index { (limit : ℕ) (k : Name·spec)
         → read_in limit text.now let_open cur.at ≡ opened_then limit text.now k result }
@@ -169,22 +162,22 @@ fn let_name(text: &[u8], classes: &Classes, cur: Cursor) -> Opened
     let token = cur.token(text, classes);
     let next = token.next;
     if token.kind != tokens::WORD {
-        return Opened::Refused(read_arguments::unexpected(token));
+        return Err(read_arguments::unexpected(token));
     }
     let comma = next.token(text, classes);
     let after = comma.next;
     if comma.kind != b',' {
-        return Opened::Refused(read_arguments::unexpected(comma));
+        return Err(read_arguments::unexpected(comma));
     }
     let name = read_arguments::named(token);
-    Opened::Call {
+    Ok(Opened {
         head: Head::Let(name),
         next: after,
-    }
+    })
 }
 
 // A LET behind its keyword, up to its argument.
-fn open_let(text: &[u8], classes: &Classes, cur: Cursor) -> Opened
+fn open_let(text: &[u8], classes: &Classes, cur: Cursor) -> Result<Opened, Refusal>
     requires { classes.now ≡ class_table }
     ensures by_index { (limit : ℕ) (k : Name·spec)
         → read_in limit text.now let_keyword cur.at ≡ opened_then limit text.now k result }
@@ -193,13 +186,13 @@ fn open_let(text: &[u8], classes: &Classes, cur: Cursor) -> Opened
     let token = cur.token(text, classes);
     let next = token.next;
     if token.kind != b'(' {
-        return Opened::Refused(read_arguments::unexpected(token));
+        return Err(read_arguments::unexpected(token));
     }
     let_name(text, classes, next)
 }
 
 // A statement behind its keyword, up to its first argument.
-fn open_call(text: &[u8], classes: &Classes, cur: Cursor, is_let: bool) -> Opened
+fn open_call(text: &[u8], classes: &Classes, cur: Cursor, is_let: bool) -> Result<Opened, Refusal>
     requires { classes.now ≡ class_table }
     ensures by_index { (limit : ℕ) (k : Name·spec)
         → read_in limit text.now (cond is_let let_keyword (keyword k)) cur.at ≡ opened_then limit text.now k result }
@@ -213,14 +206,18 @@ fn open_call(text: &[u8], classes: &Classes, cur: Cursor, is_let: bool) -> Opene
 
 // A statement behind its keyword. The arguments of LETs and features are read at this one place, so the compiler inlines their loop, and the
 // reading of an argument into that.
-pub fn read_call(text: &[u8], classes: &Classes, cur: Cursor, is_let: bool, limit: u32) -> CallRead
+pub fn read_call(
+    text: &[u8],
+    classes: &Classes,
+    cur: Cursor,
+    is_let: bool,
+    limit: u32,
+) -> Result<CallRead, Refusal>
     requires { classes.now ≡ class_table }
     ensures at_value { (k : Name·spec)
         → read_in limit text.now (cond is_let let_keyword (keyword k)) cur.at ≡ call_then limit text.now k result }
     ensures call_further { CallFurther text.now cur.at result }
 {
-    match open_call(text, classes, cur, is_let) {
-        Opened::Call { head, next } => read_args(text, classes, next, head, limit),
-        Opened::Refused(r) => CallRead::Refused(r),
-    }
+    let opened = open_call(text, classes, cur, is_let)?;
+    read_args(text, classes, opened.next, opened.head, limit)
 }

@@ -46,9 +46,9 @@ use Rattle.read_parts.specs.declared.Part.TheVariants as part
 use Rattle.read_parts.specs.Apart.{feature_apart, apart}
 use Rattle.read_parts.specs.Meaning.{PartFits}
 use Rattle.read_parts.proofs.Fitting.{statement-fits}
-use Rattle.read_text.specs.declared.StatementAt.{StatementAt}
-use Rattle.read_text.specs.declared.StatementAt.TheVariants as found
-use Rattle.read_text.specs.Answers.{statement_as}
+use Rattle.std.specs.Prelude.{Result, Ok, Err}
+use Rattle.read_forms.specs.declared.Refusal.{Refusal}
+use Rattle.read_forms.specs.Faults.{answered}
 use Rattle.reading.specs.Calls.{nth_of}
 use Rattle.reading_laws.proofs.Calls.{found_as-read}
 use Rattle.read_values.specs.declared.Value.{Value}
@@ -105,18 +105,17 @@ module _ (s : List ℕ) where
   counts-listed part.Absent f = none-listed
   counts-listed part.Omitted f = none-listed
 
-  pub found-fits : (limit i : ℕ) (f : StatementAt) → statement_as s f ≡ nth_of i (read_text limit s) → FoundFits s f
-  unfolding statement_as
-  found-fits limit i (found.Statement st) e = statement-fits limit s st (found_as-read limit s i (statement_in s st) e)
-  found-fits limit i (found.Refused r) e = tt
+  pub found-fits : (limit i : ℕ) (f : Result Statement Refusal) → answered (statement_in s) f ≡ nth_of i (read_text limit s) → FoundFits s f
+  found-fits limit i (Ok st) e = statement-fits limit s st (found_as-read limit s i (statement_in s st) e)
+  found-fits limit i (Err r) e = tt
 
-  pub found_readable : (f : StatementAt) → FoundFits s f → Readable s (found_lists f)
-  found_readable (found.Statement st) p = record {
+  pub found_readable : (f : Result Statement Refusal) → FoundFits s f → Readable s (found_lists f)
+  found_readable (Ok st) p = record {
     first = names-listed (apart st).first p.first;
     second = names-listed (apart st).second p.second;
     counts = counts-listed (apart st).first p.first;
   }
-  found_readable (found.Refused r) p = record { first = none-listed; second = none-listed; counts = none-listed }
+  found_readable (Err r) p = record { first = none-listed; second = none-listed; counts = none-listed }
 
   -- the entries of a list, from an array that holds them
   module _ (xs : List Item) (is : Items) (l : Listed s is) (e : take is.count xs ≡ items_for (items_in s is)) where
@@ -172,13 +171,13 @@ module _ (s : List ℕ) where
 
   -- A value stands for what was found.
   pub found-means :
-      (v : Value) (f : StatementAt) → v.found ≡ f → Readable s (found_lists f) → Filled s (found_lists f) v → value_as s v ≡ statement_as s f
-  unfolding found_with statement_as
-  found-means v (found.Statement st) e r h = ap (found_with s v) e ∙ ap accepted (statement-means v (parts_lists (apart st)) r h st refl)
-  found-means v (found.Refused x) e r h = ap (found_with s v) e
+      (v : Value) (f : Result Statement Refusal) → v.found ≡ f → Readable s (found_lists f) → Filled s (found_lists f) v → value_as s v ≡ answered (statement_in s) f
+  unfolding found_with
+  found-means v (Ok st) e r h = ap (found_with s v) e ∙ ap accepted (statement-means v (parts_lists (apart st)) r h st refl)
+  found-means v (Err x) e r h = ap (found_with s v) e
 
   -- Its names and its lists can be used as they stand.
-  pub found_usable : (v : Value) (f : StatementAt) → v.found ≡ f → FoundFits s f → Readable s (found_lists f) → Filled s (found_lists f) v → Usable s v
+  pub found_usable : (v : Value) (f : Result Statement Refusal) → v.found ≡ f → FoundFits s f → Readable s (found_lists f) → Filled s (found_lists f) v → Usable s v
   found_usable v f e p r h = record {
     fits = subst (FoundFits s) (sym e) p;
     few-first = rw e r.first.few;

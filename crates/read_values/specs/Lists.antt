@@ -7,8 +7,9 @@ use Rattle.read_parts.specs.declared.Part.{Part}
 use Rattle.read_parts.specs.declared.Part.TheVariants.{Absent, Modes, Counts, N, Operand, Name, Values, Op, Omitted}
 use Rattle.read_parts.specs.declared.Parts.{Parts}
 use Rattle.read_parts.specs.Apart.{apart}
-use Rattle.read_text.specs.declared.StatementAt.{StatementAt}
-use Rattle.read_text.specs.declared.StatementAt.TheVariants as found
+use Rattle.std.specs.Prelude.{Result, Ok, Err}
+use Rattle.read_forms.specs.declared.Statement.{Statement}
+use Rattle.read_forms.specs.declared.Refusal.{Refusal}
 use Rattle.read_values.specs.declared.Lists.{Lists}
 
 -- a list that an argument does not have
@@ -46,6 +47,6 @@ abbrev pub parts_lists : Parts → Lists
 parts_lists p = record { first = names_in p.first; second = names_in p.second; counts = counts_in p.first }
 
 -- a refusal has none
-abbrev pub found_lists : StatementAt → Lists
-found_lists (found.Statement s) = parts_lists (apart s)
-found_lists (found.Refused r) = record { first = no_items; second = no_items; counts = no_items }
+abbrev pub found_lists : Result Statement Refusal → Lists
+found_lists (Ok s) = parts_lists (apart s)
+found_lists (Err r) = record { first = no_items; second = no_items; counts = no_items }

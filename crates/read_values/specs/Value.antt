@@ -1,9 +1,9 @@
 -- Document 01, The calls offered: "Statement: a text and an index give that statement by value, each name as an (offset, length) pair into the
 -- text, the pairs of one list sorted by offset." What a value means: the statement whose names are the bytes that its pairs point to, and
 -- whose lists are the first entries of its arrays, as many as the list says.
-use Rattle.std.specs.Prelude.{ℕ, ◌≤◌, true, List, map, ◌≡◌, length, take}
+use Rattle.std.specs.Prelude.{ℕ, ◌≤◌, true, List, map, ◌≡◌, length, take, Result, Ok, Err}
 use Rattle.reading.specs.Statement as statement
-use Rattle.reading.specs.Answer.{Answer, accepted, refused}
+use Rattle.reading.specs.Answer.{Answer, accepted}
 use Rattle.read_forms.specs.declared.Item.{Item}
 use Rattle.read_forms.specs.declared.Counts.{Counts}
 use Rattle.read_forms.specs.declared.Counts.TheVariants as counts
@@ -12,12 +12,13 @@ use Rattle.read_forms.specs.declared.TransitCounts.TheVariants as transits
 use Rattle.read_forms.specs.declared.Operand.{Operand}
 use Rattle.read_forms.specs.declared.Operand.TheVariants as operand
 use Rattle.read_forms.specs.Items.{name_in, item_in, items_in}
-use Rattle.read_forms.specs.Forms.{some_name_in, values_in, Meanings, statement_by}
+use Rattle.read_forms.specs.Forms.{values_in, Meanings, statement_by}
 use Rattle.read_lists.specs.Lists.{items_for, in_order}
 use Rattle.read_parts.specs.Apart.{apart}
 use Rattle.read_parts.specs.Meaning.{PartsFit}
-use Rattle.read_text.specs.declared.StatementAt.{StatementAt}
-use Rattle.read_text.specs.declared.StatementAt.TheVariants as found
+use Rattle.read_forms.specs.declared.Statement.{Statement}
+use Rattle.read_forms.specs.declared.Refusal.{Refusal}
+use Rattle.read_forms.specs.Faults.{refused_by}
 use Rattle.read_values.specs.declared.Value.{Value}
 use Rattle.read_values.specs.declared.Lists.{Lists}
 use Rattle.read_values.specs.Lists.{found_lists}
@@ -44,7 +45,6 @@ operand_with s xs (operand.Names is) = statement.names (map (λ i. i.name) (item
 abbrev pub in_arrays : List ℕ → Value → Meanings
 in_arrays s v = record {
   name = name_in s;
-  some_name = some_name_in s;
   counts = counts_with v.counts;
   transits = transits_with v.counts;
   first = operand_with s v.first;
@@ -53,17 +53,17 @@ in_arrays s v = record {
 }
 
 -- the statement that a value stands for in a text, or the refusal
-unfoldable pub found_with : List ℕ → Value → StatementAt → Answer statement.Statement
-found_with s v (found.Statement f) = accepted (statement_by (in_arrays s v) f)
-found_with s v (found.Refused r) = refused r.number r.place
+unfoldable pub found_with : List ℕ → Value → Result Statement Refusal → Answer statement.Statement
+found_with s v (Ok f) = accepted (statement_by (in_arrays s v) f)
+found_with s v (Err r) = refused_by r
 
 abbrev pub value_as : List ℕ → Value → Answer statement.Statement
 value_as s v = found_with s v v.found
 
 -- what was found has its names in the text: symbols and names alone lie in it, and lists can be read again from where they start
-abbrev pub FoundFits : List ℕ → StatementAt → Type 0
-FoundFits s (found.Statement f) = PartsFit s (apart f)
-FoundFits s (found.Refused r) = Unit {0}
+abbrev pub FoundFits : List ℕ → Result Statement Refusal → Type 0
+FoundFits s (Ok f) = PartsFit s (apart f)
+FoundFits s (Err r) = Unit {0}
 
 -- Each list has as many entries as it says, at most 64. Each pair lies in the text, and those of a list end before the next one starts.
 pub record Usable (s : List ℕ) (v : Value) : Type 0 where

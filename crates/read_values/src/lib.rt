@@ -8,16 +8,15 @@ ghost use Rattle.reading.specs.Calls.{stating};
 ghost use Rattle.read_values.specs.Lists.{no_items, names_in, counts_in, found_lists};
 ghost use Rattle.read_values.specs.Value.{value_as, Usable, Filled};
 
-use read_forms::{Counts, Item, Items, Operand};
+use read_forms::{Counts, Item, Items, Operand, Refusal, Statement};
 use read_parts::Part;
-use read_text::StatementAt;
 use tokens::{Classes, Cursor};
 
 // A statement, or why there is none, and its lists beside it: the names of its first argument, the names or a LET's values of its second, and
 // the counts of its first. An array's entries past its list are left free.
 #[derive(Clone, Copy)]
 pub struct Value {
-    pub found: StatementAt,
+    pub found: Result<Statement, Refusal>,
     pub first: [Item; 64],
     pub second: [Item; 64],
     pub counts: [u32; 64],
@@ -82,21 +81,19 @@ fn counts_in(part: Part) -> Items
 }
 
 // The lists of what was found; a refusal has none.
-fn found_lists(found: StatementAt) -> Lists
+fn found_lists(found: Result<Statement, Refusal>) -> Lists
     ensures { result ≡ found_lists found }
 {
     match found {
-        StatementAt::Statement(statement) => {
+        Ok(statement) => {
             let parts = read_parts::parts_of(statement);
-            let first = parts.first;
-            let second = parts.second;
             Lists {
-                first: names_in(first),
-                second: names_in(second),
-                counts: counts_in(first),
+                first: names_in(parts.first),
+                second: names_in(parts.second),
+                counts: counts_in(parts.first),
             }
         }
-        StatementAt::Refused(_) => {
+        Err(_) => {
             let none = no_items();
             Lists {
                 first: none,
@@ -108,7 +105,12 @@ fn found_lists(found: StatementAt) -> Lists
 }
 
 // What was found, with its lists beside it.
-fn value_of(text: &[u8], classes: &Classes, found: StatementAt, lists: Lists) -> Value
+fn value_of(
+    text: &[u8],
+    classes: &Classes,
+    found: Result<Statement, Refusal>,
+    lists: Lists,
+) -> Value
     requires { (classes.now ≡ class_table) × Listed text.now lists.first × Listed text.now lists.second × Listed text.now lists.counts }
     ensures { (result.found ≡ found) × Filled text.now lists result }
 {

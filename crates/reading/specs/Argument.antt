@@ -1,9 +1,7 @@
 -- Arguments before their feature says what they mean (000, `Arg`), and what each kind of argument takes them for (000, `names_of`,
 -- `modes_of`, `operand_of`, `counts_of`).
-use Rattle.std.specs.Prelude.{ℕ, cond, List, [], ◌∷◌, map, eqb, ltb}
+use Rattle.std.specs.Prelude.{ℕ, cond, List, [], ◌∷◌, map, eqb, ltb, Option as Option·rust, Some, None}
 use Rattle.std.proofs.Math.Option.{Option, some, none}
-use Rattle.counts.specs.declared.Counted.{Counted}
-use Rattle.counts.specs.declared.Counted.TheVariants.{Count, Refused}
 use Rattle.counts.specs.Count.{count_of}
 use Rattle.labels.specs.declared.Family.{Family}
 use Rattle.labels.specs.Word.{find}
@@ -44,9 +42,9 @@ place_of (range o a b) = o
 place_of (array o is) = o
 
 -- a number as a count
-abbrev pub counted : Name → Counted → Answer ℕ
-counted n (Count v) = accepted v
-counted n Refused = bad_count n.place
+abbrev pub counted : Name → Option·rust ℕ → Answer ℕ
+counted n (Some v) = accepted v
+counted n None = bad_count n.place
 
 unfoldable pub count_at : ℕ → Name → Answer ℕ
 count_at limit n = counted n (count_of limit n.spelling)

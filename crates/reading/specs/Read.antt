@@ -1,10 +1,8 @@
 -- Document 01, Reading: "The whole text is split into tokens before any statement, so a bad character wins over an earlier fault." And
 -- Faults, 1, 3 and 11: a text of at most 16,384 bytes and 256 statements. And document 02, P1: "Reading .. take a count ceiling from 0 to
 -- 256, and every count is held to that in place of 64." (Where a count is read: Argument.antt.)
-use Rattle.std.specs.Prelude.{ℕ, suc, Bool, false, cond, List, [], ◌∷◌, leb, ltb, length}
+use Rattle.std.specs.Prelude.{ℕ, suc, Bool, false, cond, List, [], ◌∷◌, leb, ltb, length, Option, Some, None}
 use Rattle.text.specs.Bytes.{is}
-use Rattle.tokens.specs.declared.Scanned.{Scanned}
-use Rattle.tokens.specs.declared.Scanned.TheVariants.{Whole, Stray}
 use Rattle.tokens.specs.Token.{Shape, word, number, mark, Tokens, finish, bad, ◌▸◌}
 use Rattle.tokens.specs.Lex.{tokens}
 use Rattle.tokens.specs.Next.{scanned}
@@ -50,9 +48,9 @@ read_from limit size n (inside s) (t ▸ ts) =
     let after = read_from limit size (suc n) ended ts in
     onward (turn limit s t.place t.shape) (λ s'. read_from limit size n (inside s') ts) after
 
-abbrev pub read_scanned : ℕ → ℕ → Tokens → Scanned → Answer (List Statement)
-read_scanned limit size ts Whole = read_from limit size 0 between ts
-read_scanned limit size ts (Stray o) = bad_byte o
+abbrev pub read_scanned : ℕ → ℕ → Tokens → Option ℕ → Answer (List Statement)
+read_scanned limit size ts None = read_from limit size 0 between ts
+read_scanned limit size ts (Some o) = bad_byte o
 
 -- The statements of a text, under a ceiling for counts. "A ceiling above 256 is number 21, before 1."
 unfoldable pub read_text : ℕ → List ℕ → Answer (List Statement)

@@ -1,12 +1,11 @@
 -- What arguments are taken for, moved.
 -- Assumes nothing.
+use Rattle.std.specs.Prelude.{Option as Option·rust, Some, None}
 use Prim.Native.Nat.{ℕ}
 use mathlib.Core.Path.{◌≡◌, refl, ap}
 use mathlib.Core.List.{List, [], ◌∷◌, map}
 use mathlib.Core.Option.{Option, some, none}
 use lib.Dec.{ltb}
-use Rattle.counts.specs.declared.Counted.{Counted}
-use Rattle.counts.specs.declared.Counted.TheVariants.{Count, Refused}
 use Rattle.counts.specs.Count.{count_of}
 use Rattle.labels.specs.declared.Family.{Family}
 use Rattle.labels.specs.Word.{find}
@@ -54,9 +53,9 @@ count_at_moved : (to : ℕ → ℕ) (limit : ℕ) (n : Name) → Moves to same (
 unfolding count_at
 count_at_moved to limit n = go (count_of limit n.spelling)
   where
-    go : (c : Counted) → Moves to same (counted (move_name to n) c) (counted n c)
-    go (Count v) = stands refl
-    go Refused = falls
+    go : (c : Option·rust ℕ) → Moves to same (counted (move_name to n) c) (counted n c)
+    go (Some v) = stands refl
+    go None = falls
 
 -- a range is refused at one of its ends, or stands where the left one stands
 pub range_moved :

@@ -1,5 +1,6 @@
 -- What is refused is so by the number of a fault: none is 0, and each fits a byte.
 -- Assumes nothing.
+use Rattle.std.specs.Prelude.{Option, Some, None}
 use Prim.Native.Nat.{ℕ, suc, ◌≤◌}
 use mathlib.Core.Path.{◌≡◌, refl}
 use mathlib.Core.Bool.{Bool, true, false, cond}
@@ -7,8 +8,6 @@ use mathlib.Core.List.{List}
 use borrow.Author.Tests.{leb-true}
 use lib.Dec.{leb, ltb}
 use lib.ListN.{length}
-use Rattle.tokens.specs.declared.Scanned.{Scanned}
-use Rattle.tokens.specs.declared.Scanned.TheVariants.{Whole, Stray}
 use Rattle.tokens.specs.Token.{Tokens, finish, bad, ◌▸◌}
 use Rattle.tokens.specs.Lex.{tokens}
 use Rattle.tokens.specs.Next.{scanned}
@@ -63,9 +62,9 @@ module _ (limit size : ℕ) where
   read_gives n (inside s) (t ▸ ts) =
       onward_gives _ (turn-named limit s t.place t.shape) (λ next. read_gives n (inside next) ts) (read_gives (suc n) ended ts)
 
-  scanned_gives : (ts : Tokens) (r : Scanned) → Gives Anything (read_scanned limit size ts r)
-  scanned_gives ts Whole = read_gives 0 between ts
-  scanned_gives ts (Stray o) = nothing refl
+  scanned_gives : (ts : Tokens) (r : Option ℕ) → Gives Anything (read_scanned limit size ts r)
+  scanned_gives ts None = read_gives 0 between ts
+  scanned_gives ts (Some o) = nothing refl
 
 -- A text is accepted, or refused by the number of a fault.
 pub text_gives : (limit : ℕ) (text : List ℕ) → Gives Anything (read_text limit text)

@@ -1,6 +1,7 @@
 -- Two accepted texts with a newline between them are read as the statements of the first and then those of the second, whose places lie
 -- further on by the first's length and the newline: as long as the whole keeps within 16,384 bytes and 256 statements.
 -- Assumes nothing.
+use Rattle.std.specs.Prelude.{Option, Some, None}
 use Prim.Native.Nat.{ℕ, ◌+◌, ◌≤◌}
 use native.Mathlib.Omega.{arith}
 use mathlib.Core.Path.{◌≡◌, refl, ◌∙◌, ap}
@@ -9,8 +10,6 @@ use mathlib.Core.List.{List, [], ◌∷◌, ◌++◌, map}
 use borrow.Author.Tests.{ltb-false, le-ltb}
 use lib.Dec.{ltb}
 use lib.ListN.{length, length-map}
-use Rattle.tokens.specs.declared.Scanned.{Scanned}
-use Rattle.tokens.specs.declared.Scanned.TheVariants.{Whole, Stray}
 use Rattle.tokens.specs.Lex.{tokens}
 use Rattle.tokens.specs.Next.{scanned}
 use Rattle.token_laws.specs.Join.{raise}
@@ -34,16 +33,16 @@ module _ (limit : ℕ) (text : List ℕ) (ss : List Statement) (e : read_text li
   admitted_and-accepted = go (ltb 256 limit) (ltb 16384 (length text)) (scanned (tokens text)) refl refl e
     where
       go :
-          (h t : Bool) (s : Scanned)
+          (h t : Bool) (s : Option ℕ)
           → ltb 256 limit ≡ h
           → ltb 16384 (length text) ≡ t
           → cond h too_high (cond t too_long (read_scanned limit (length text) (tokens text) s)) ≡ accepted ss
           → Admitted limit text × (read_from limit (length text) 0 between (tokens text) ≡ accepted ss)
       go true t s c h e = absurd (not-refused e)
       go false true s c h e = absurd (not-refused e)
-      go false false Whole c h e =
+      go false false None c h e =
           (record { ceiling = ltb-false 256 limit c; short = ltb-false 16384 (length text) h }, e)
-      go false false (Stray o) c h e = absurd (not-refused e)
+      go false false (Some o) c h e = absurd (not-refused e)
 
   pub accepted_admitted : Admitted limit text
   accepted_admitted = admitted_and-accepted.0

@@ -1,5 +1,6 @@
 -- What each kind of argument is taken for.
 -- Assumes nothing.
+use Rattle.std.specs.Prelude.{Some, None}
 use Prim.Native.Nat.{ℕ}
 use mathlib.Core.Path.{◌≡◌, refl}
 use mathlib.Core.Bool.{Bool, true, false, cond, ◌&&◌}
@@ -8,7 +9,6 @@ use mathlib.Core.Option.{Option, some, none}
 use borrow.Author.Tests.{ltb-false}
 use lib.Dec.{leb, ltb}
 use Rattle.counts.specs.Count.{whole, value, count_of}
-use Rattle.counts.specs.declared.Counted.TheVariants.{Count, Refused}
 use Rattle.labels.specs.declared.Family.{Family}
 use Rattle.labels.specs.Word.{find}
 use Rattle.labels.specs.Label.{labels_of}
@@ -107,7 +107,7 @@ module _ (limit : ℕ) where
           → whole n.spelling ≡ a
           → leb (value n.spelling) 4294967295 ≡ b
           → leb (value n.spelling) limit ≡ c
-          → Gives (IsCount limit n) (counted n (cond (a && b && c) (Count (value n.spelling)) Refused))
+          → Gives (IsCount limit n) (counted n (cond (a && b && c) (Some (value n.spelling)) None))
       go false b c d e h = nothing refl
       go true false c d e h = nothing refl
       go true true false d e h = nothing refl

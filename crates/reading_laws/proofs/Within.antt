@@ -1,6 +1,7 @@
 -- A refusal's place is no further than the text's end. Reading does not compute with places, so it stays the same where places are cut to the
 -- text's size; and the places of tokens stay the same then.
 -- Assumes nothing.
+use Rattle.std.specs.Prelude.{Option, Some, None}
 use Prim.Native.Nat.{ℕ, ◌≤◌}
 use mathlib.Core.Path.{◌≡◌, refl, ◌∙◌, ap, sym, subst}
 use mathlib.Core.Bool.{Bool, true, false, cond}
@@ -10,8 +11,6 @@ use native.Mathlib.Omega.{arith}
 use borrow.Author.Tests.{le-leb, leb-true}
 use lib.Dec.{leb, ltb}
 use lib.ListN.{length}
-use Rattle.tokens.specs.declared.Scanned.{Scanned}
-use Rattle.tokens.specs.declared.Scanned.TheVariants.{Whole, Stray}
 use Rattle.tokens.specs.Token.{Tokens, finish, bad, ◌▸◌}
 use Rattle.tokens.specs.Lex.{tokens}
 use Rattle.tokens.specs.Next.{scanned}
@@ -43,9 +42,9 @@ laid_cut {text} (strayed {p} h) = ap bad (cut_within (length text) p h)
 laid_cut {text} (laid {p} l n h s r) = rw (cut_within (length text) p (omega (arith, h)), laid_cut r)
 
 -- what a scan and what reading answer is not cut either
-cut_scan : ℕ → Scanned → Scanned
-cut_scan size Whole = Whole
-cut_scan size (Stray o) = Stray (cut size o)
+cut_scan : ℕ → Option ℕ → Option ℕ
+cut_scan size None = None
+cut_scan size (Some o) = Some (cut size o)
 
 scan_cut : (size : ℕ) (ts : Tokens) → scanned (move_tokens (cut size) ts) ≡ cut_scan size (scanned ts)
 unfolding scanned cut_scan
@@ -56,10 +55,10 @@ scan_cut size (t ▸ ts) = scan_cut size ts
 whole-tokens : (s : List ℕ) → move_tokens (cut (length s)) (tokens s) ≡ tokens s
 whole-tokens s = laid_cut (tokens-laid s)
 
-stray_within : (s : List ℕ) (o : ℕ) → scanned (tokens s) ≡ Stray o → o ≤ length s
+stray_within : (s : List ℕ) (o : ℕ) → scanned (tokens s) ≡ Some o → o ≤ length s
 unfolding cut_scan
 stray_within s o e =
-    let same : Stray o ≡ Stray (cut (length s) o) = sym e ∙ sym (ap scanned (whole-tokens s)) ∙ scan_cut (length s) (tokens s) ∙ ap (cut_scan (length s)) e in
+    let same : Some o ≡ Some (cut (length s) o) = sym e ∙ sym (ap scanned (whole-tokens s)) ∙ scan_cut (length s) (tokens s) ∙ ap (cut_scan (length s)) e in
     let it : o ≡ cut (length s) o = cc in
     subst (λ (q : ℕ). q ≤ length s) (sym it) (cut_most (length s) o)
 
@@ -81,11 +80,11 @@ unfolding read_text
 refused-within limit s k p e = go (ltb 256 limit) (ltb 16384 (length s)) (scanned (tokens s)) refl e
   where
     go :
-        (h t : Bool) (c : Scanned)
+        (h t : Bool) (c : Option ℕ)
         → scanned (tokens s) ≡ c
         → cond h too_high (cond t too_long (read_scanned limit (length s) (tokens s) c)) ≡ refused k p
         → p ≤ length s
     go true t c h e = let z : ◌≡◌ {A = ℕ} 0 p = cc in omega arith
     go false true c h e = let z : ◌≡◌ {A = ℕ} 0 p = cc in omega arith
-    go false false Whole h e = read-within limit s k p e
-    go false false (Stray o) h e = let z : o ≡ p = cc in subst (λ (q : ℕ). q ≤ length s) z (stray_within s o h)
+    go false false None h e = read-within limit s k p e
+    go false false (Some o) h e = let z : o ≡ p = cc in subst (λ (q : ℕ). q ≤ length s) z (stray_within s o h)

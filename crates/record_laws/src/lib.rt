@@ -2,33 +2,26 @@
 // that knows its record, is a call of it, and has what it says.
 #![tactic(auto)]
 
-ghost use Rattle.std.specs.Prelude.{◌≡◌, ℕ, List, ◌++◌, map, ◌≤◌, ◌<◌, length, get_or, take, drop};
+ghost use Rattle.std.specs.Prelude.{◌≡◌, ℕ, List, ◌++◌, map, ◌≤◌, length, drop};
 ghost use Rattle.std.specs.Fn.{FnOnceReturnsAt, FnOnceReturnsAtMut};
 ghost use Rattle.record_laws.specs.Call.{Of, Says, Enough};
 
-// Records that are packed, each in one number.
-pub trait Unpacks {
-    type Record: Copy;
-
+// Records that can be packed, each in one number.
+pub trait Unpacks: Copy {
     // What a packed number stands for.
-    ghost unpack: { ℕ → Self.Record };
+    ghost unpack: { ℕ → Self };
 
-    // The record at an index of a packed run.
-    fn record_in(packed: &[u32], i: usize) -> Self::Record
-        requires { i < length packed.now }
-        ensures { result ≡ unpack (get_or packed.now i 0) };
+    fn unpacked(packed: u32) -> Self
+        ensures { result ≡ unpack packed };
 }
 
-// The first n records of a packed run; those behind them are left as they were.
-pub fn store<U: Unpacks>(records: &mut [U::Record], packed: &[u32], n: usize)
-    requires { (n ≤ length records.old) × (n ≤ length packed.now) }
-    ensures { records.new ≡ map U.unpack (take n packed.now) ++ drop n records.old }
+// The records of a packed run; those behind them are left as they were.
+pub fn store<R: Unpacks>(records: &mut [R], packed: &[u32])
+    requires { length packed.now ≤ length records.old }
+    ensures { records.new ≡ map R.unpack packed.now ++ drop (length packed.now) records.old }
 {
-    let mut i: usize = 0;
-    while i < n {
-        let e = U::record_in(packed, i);
-        records[i] = e;
-        i += 1;
+    for (i, number) in packed.iter().enumerate() {
+        records[i] = R::unpacked(*number);
     }
 }
 
@@ -49,7 +42,7 @@ pub fn share<R, X, F: FnOnce(&[R]) -> X>(records: &mut [R], f: F) -> X
     f(records)
 }
 
-// A call whose work leaves its records packed at the start of a working buffer: what it is handed, the four functions that it consists of, and what
+// A call whose work leaves its records packed at the start of a working buffer: what it is handed, the functions that it consists of, and what
 // it answers and leaves.
 pub trait PackedCall {
     // The types of the elements: of the three slices that are read, and of the output, the records and the notes.
@@ -61,13 +54,11 @@ pub trait PackedCall {
 
     type Output;
 
-    type Record;
+    type Record: Unpacks;
 
     type Note;
 
-    // What a packed number stands for, how many records a word tells of, and what is left of the working buffer.
-    ghost unpack: { ℕ → Self.Record };
-
+    // How many records a word tells of, and what is left of the working buffer.
     ghost counted: { ℕ → ℕ };
 
     ghost finished: { List ℕ → List ℕ };
@@ -102,10 +93,6 @@ pub trait PackedCall {
     fn count(word: u64) -> usize
         ensures { result ≡ counted word };
 
-    fn store(records: &mut [Self::Record], packed: &[u32], n: usize)
-        requires { (n ≤ length records.old) × (n ≤ length packed.now) }
-        ensures { records.new ≡ map unpack (take n packed.now) ++ drop n records.old };
-
     fn finish(work: &mut [u32])
         ensures { work.new ≡ finished work.old };
 }
@@ -122,7 +109,7 @@ pub fn call<C: PackedCall>(
     work: &mut [u32],
     limit: u32,
 ) -> u64
-    requires { Enough C.unpack C.counted C.finished C.answer_of C.output_of C.records_of C.notes_of C.work_of C.says }
+    requires { Enough C.Record.unpack C.counted C.finished C.answer_of C.output_of C.records_of C.notes_of C.work_of C.says }
     ensures told { result ≡ C.answer_of a.now b.now c.now output.old records.old notes.old work.old limit }
     ensures output_after { output.new ≡ C.output_of a.now b.now c.now output.old records.old notes.old work.old limit }
     ensures records_after { records.new ≡ C.records_of a.now b.now c.now output.old records.old notes.old work.old limit }
@@ -132,7 +119,7 @@ pub fn call<C: PackedCall>(
     let room = records.len();
     let word = C::pack(a, b, c, output, room, notes, work, limit);
     let n = C::count(word);
-    C::store(records, work, n);
+    store(records, &work[..n]);
     C::finish(work);
     word
 }

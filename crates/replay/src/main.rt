@@ -5,12 +5,15 @@
 // largest context.
 #![tactic(auto)]
 
+use input::Line;
+use replay_lines::output::Output;
+
 mod input;
 
 fn main(rt: HostRuntime) {
     let mut chunk = io::large_buffer();
-    let mut line = [0; 131072];
+    let mut line = Line::new();
     let mut text = io::large_buffer();
-    let mut out = io::large_buffer();
+    let mut out = Output::new();
     input::answer_all(&rt, &mut chunk, &mut line, &mut text, &mut out);
 }

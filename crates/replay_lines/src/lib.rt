@@ -6,5 +6,4 @@ pub mod contexts;
 pub mod effects;
 pub mod lexed;
 pub mod output;
-pub mod within;
 pub mod words;

@@ -1,87 +1,70 @@
-// Standard output by way of a buffer: each function takes how many of its bytes are waiting and answers how many are.
-ghost use Rattle.io.specs.Counts.{IsPrefixLen};
+// Standard output by way of a buffer of fixed size.
+ghost use Rattle.std.specs.Prelude.{◌≤◌};
 
-// A number of bytes, cut to those that there are.
-pub fn within(n: usize, bytes: &[u8]) -> usize
-    ensures { IsPrefixLen result bytes.now }
-{
-    if n < bytes.len() { n } else { bytes.len() }
+// Bytes that wait to be written out.
+#[derive(Drop)]
+pub struct Output {
+    bytes: [u8; 65536],
+    len: usize,
+    ghost fits: { len ≤ 65536 },
 }
 
-// One byte more. A full buffer is written out first.
-pub fn put(out: &mut [u8], len: usize, byte: u8) -> usize {
-    if len < out.len() {
-        out[len] = byte;
-        return len + 1;
+impl Output {
+    pub fn new() -> Output {
+        Output {
+            bytes: io::large_buffer(),
+            len: 0,
+        }
     }
-    io::write_all(1, out);
-    if 0 < out.len() {
-        out[0] = byte;
-        return 1;
+
+    // The waiting bytes are written out.
+    pub fn flush(&mut self) {
+        io::write_all(1, &self.bytes[..self.len]);
+        self.len = 0;
     }
-    0
-}
 
-pub fn put_all(out: &mut [u8], len: usize, bytes: &[u8]) -> usize {
-    let mut n = len;
-    let mut i = 0;
-    while i < bytes.len() {
-        n = put(out, n, bytes[i]);
-        i += 1;
+    // One byte more. A full buffer is written out first.
+    pub fn put(&mut self, byte: u8) {
+        if self.len == self.bytes.len() {
+            io::write_all(1, &self.bytes);
+            self.len = 0;
+        }
+        self.bytes[self.len] = byte;
+        self.len += 1;
     }
-    n
-}
 
-// A number in decimal.
-pub fn put_digits(out: &mut [u8], len: usize, number: usize) -> usize {
-    let mut digits = [0u8; 20];
-    let k = io::decimal(number as u64, &mut digits);
-    put_all(out, len, &digits[..k])
-}
-
-// A space and a number in decimal.
-pub fn put_number(out: &mut [u8], len: usize, number: usize) -> usize {
-    let n = put(out, len, b' ');
-    put_digits(out, n, number)
-}
-
-// The digit of a number below 16, in lower case.
-fn hex_digit(n: u8) -> u8 {
-    let d = n % 16;
-    if d < 10 { b'0' + d } else { b'a' + (d - 10) }
-}
-
-fn put_hex_byte(out: &mut [u8], len: usize, byte: u8) -> usize {
-    let n = put(out, len, hex_digit(byte / 16));
-    put(out, n, hex_digit(byte))
-}
-
-// The bytes from one offset to another, two digits each.
-pub fn put_hex(out: &mut [u8], len: usize, bytes: &[u8], from: usize, to: usize) -> usize {
-    let end = within(to, bytes);
-    let mut n = len;
-    let mut i = from;
-    while i < end {
-        n = put_hex_byte(out, n, bytes[i]);
-        i += 1;
+    pub fn put_all(&mut self, bytes: &[u8]) {
+        for byte in bytes {
+            self.put(*byte);
+        }
     }
-    n
-}
 
-// The waiting bytes.
-pub fn flush(out: &[u8], len: usize) {
-    let n = within(len, out);
-    io::write_all(1, &out[..n]);
-}
+    // A number in decimal.
+    pub fn put_digits(&mut self, number: usize) {
+        let mut digits = [0; 20];
+        let n = io::decimal(number as u64, &mut digits);
+        self.put_all(&digits[..n]);
+    }
 
-// The answer to a line that is no request.
-pub fn malformed(out: &mut [u8], len: usize) -> usize {
-    put_all(out, len, b"malformed: not a request")
-}
+    // A space and a number in decimal.
+    pub fn put_number(&mut self, number: usize) {
+        self.put(b' ');
+        self.put_digits(number);
+    }
 
-// A fault by its number, and the offset of the byte that it names.
-pub fn refused(out: &mut [u8], len: usize, fault: usize, at: usize) -> usize {
-    let n = put_all(out, len, b"refused");
-    let m = put_number(out, n, fault);
-    put_number(out, m, at)
+    // Bytes, two digits each, in lower case.
+    pub fn put_hex(&mut self, bytes: &[u8]) {
+        let digits = b"0123456789abcdef";
+        for byte in bytes {
+            self.put(digits[(*byte / 16) as usize]);
+            self.put(digits[(*byte % 16) as usize]);
+        }
+    }
+
+    // A fault by its number, and the offset of the byte that it names.
+    pub fn put_refused(&mut self, fault: usize, at: usize) {
+        self.put_all(b"refused");
+        self.put_number(fault);
+        self.put_number(at);
+    }
 }

@@ -2,10 +2,9 @@
 // and a context; and their answers.
 use crate::text_lines;
 use print_lines::Asked;
-use replay_lines::contexts::{Handed, Went};
-use replay_lines::words::Decoded;
-use replay_lines::{contexts, effects, output, within, words};
-use resolve_settling::Resolved;
+use replay_lines::contexts::Run;
+use replay_lines::output::Output;
+use replay_lines::{contexts, effects, words};
 
 // What is asked of a text in a context: Resolve's answer in words, or what `ground` writes.
 #[derive(Clone, Copy)]
@@ -23,130 +22,70 @@ struct Lent {
     work: usize,
 }
 
-// What a line's end says of that, or that the line is no request.
-#[derive(Clone, Copy)]
-enum Lending {
-    Lent(Lent),
-    Malformed,
+// The first of a buffer's entries, as many as are asked for and there.
+fn lend<T>(buffer: &mut [T], count: usize) -> &mut [T] {
+    let n = count.min(buffer.len());
+    &mut buffer[..n]
+}
+
+fn share<T>(buffer: &[T], count: usize) -> &[T] {
+    &buffer[..count.min(buffer.len())]
 }
 
 // Resolve with so much of each buffer. Each is longer than its full size, so where it has less than is asked for the answer is the same.
-fn resolve_lent(
-    text: &[u8],
-    block: &[u8],
-    lists: &[u32],
-    ceiling: u32,
-    lent: Lent,
-    ground: &mut [u8],
-    effects: &mut [[u8; 5]],
-    notes: &mut [[u8; 2]],
-    work: &mut [u32],
-) -> Resolved {
-    let g = output::within(lent.ground, ground);
-    let e = within::effects(lent.effects, effects);
-    let n = within::notes(lent.notes, notes);
-    let w = within::numbers(lent.work, work);
-    resolve_call::resolve_under(
-        text,
-        block,
-        lists,
-        &mut ground[..g],
-        &mut effects[..e],
-        &mut notes[..n],
-        &mut work[..w],
-        ceiling,
-    )
-}
-
 fn answer_lent(
     text: &[u8],
     block: &[u8],
     lists: &[u32],
     ceiling: u32,
     lent: Lent,
-    out: &mut [u8],
-    len: usize,
-) -> usize {
+    out: &mut Output,
+) {
     let mut ground = io::large_buffer();
     let mut effects = [[0; 5]; 4096];
     let mut notes = [[0; 2]; 512];
     let mut work = [0; 8192];
-    match resolve_lent(
+    match resolve_call::resolve_under(
         text,
         block,
         lists,
+        lend(&mut ground, lent.ground),
+        lend(&mut effects, lent.effects),
+        lend(&mut notes, lent.notes),
+        lend(&mut work, lent.work),
         ceiling,
-        lent,
-        &mut ground,
-        &mut effects,
-        &mut notes,
-        &mut work,
     ) {
-        Resolved::Refused(r) => output::refused(out, len, r.number as usize, r.place),
-        Resolved::Lengths(lengths) => {
-            let n = effects::put_ground(out, len, &ground, lengths.ground);
-            let m = effects::put_effects(out, n, &effects, lengths.effects);
-            effects::put_notes(out, m, &notes, lengths.notes)
+        Err(r) => out.put_refused(r.fault as usize, r.place),
+        Ok(lengths) => {
+            effects::put_ground(out, share(&ground, lengths.ground));
+            effects::put_entries(out, share(&effects, lengths.effects));
+            effects::put_entries(out, share(&notes, lengths.notes));
         }
     }
 }
 
-// The lengths behind the context, four numbers joined by `,` behind a blank. They are the line's last word.
-fn read_lengths(line: &[u8], from: usize, lengths: &mut [u32; 4]) -> bool {
-    let Went::On {
-        at: first,
-        count: one,
-    } = contexts::take_marked(line, from, b' ', lengths, 0)
-    else {
-        return false;
-    };
-    let Went::On {
-        at: second,
-        count: two,
-    } = contexts::take_marked(line, first, b',', lengths, one)
-    else {
-        return false;
-    };
-    let Went::On {
-        at: third,
-        count: three,
-    } = contexts::take_marked(line, second, b',', lengths, two)
-    else {
-        return false;
-    };
-    let Went::On {
-        at: fourth,
-        count: _,
-    } = contexts::take_marked(line, third, b',', lengths, three)
-    else {
-        return false;
-    };
-    line.len() <= fourth
-}
-
-fn wide(number: u32) -> usize {
-    number as usize
-}
-
-// What is lent, where the context ends at an offset of the line. All is of full size where the line ends there too.
-fn read_lent(line: &[u8], end: usize) -> Lending {
-    if line.len() <= end {
-        return Lending::Lent(Lent {
+// What is lent, by what stands behind the context: all of full size where nothing does, or four numbers joined by `,` behind a blank.
+fn read_lent(line: &[u8]) -> Option<Lent> {
+    if line.is_empty() {
+        return Some(Lent {
             ground: 16384,
             effects: 2048,
             notes: 257,
             work: resolve_call::WORKING,
         });
     }
-    let mut lengths = [0; 4];
-    if !read_lengths(line, end, &mut lengths) {
-        return Lending::Malformed;
+    let (ground, rest) = contexts::marked(line, b' ')?;
+    let (effects, rest) = contexts::marked(rest, b',')?;
+    let (notes, rest) = contexts::marked(rest, b',')?;
+    let (work, rest) = contexts::marked(rest, b',')?;
+    if !rest.is_empty() {
+        return None;
     }
-    Lending::Lent(Lent {
-        ground: wide(lengths[0]),
-        effects: wide(lengths[1]),
-        notes: wide(lengths[2]),
-        work: wide(lengths[3]),
+    Some(Lent {
+        ground: ground as usize,
+        effects: effects as usize,
+        notes: notes as usize,
+        work: work as usize,
     })
 }
 
@@ -157,9 +96,8 @@ fn answer_written(
     block: &[u8],
     lists: &[u32],
     ceiling: u32,
-    out: &mut [u8],
-    len: usize,
-) -> usize {
+    out: &mut Output,
+) {
     let mut page = [0; 262144];
     let mut ground = io::large_buffer();
     let mut effects = [[0; 5]; 2048];
@@ -177,69 +115,47 @@ fn answer_written(
         &mut page,
         ceiling,
     );
-    text_lines::put_written(out, len, &page, lines.count)
+    text_lines::put_written(out, share(&page, lines.count));
 }
 
-// The answer about a text, where the context starts at an offset of the line. A context of more than 16,384 numbers is none. It is kept out of its
+// The answer about a text in the context that a line begins with. A context of more than 16,384 numbers is none. It is kept out of its
 // caller, since LLVM would put the caller's search for a blank before the loop that reserves its large frame, and lose the blank's place there.
 #[inline(never)]
 fn answer_context(
     wanted: Wanted,
     line: &[u8],
-    from: usize,
     ceiling: u32,
     text: &[u8],
-    out: &mut [u8],
-    len: usize,
-) -> usize {
+    out: &mut Output,
+) -> Option<()> {
     let mut block = io::large_buffer();
-    let mut numbers = [0; 16384];
-    let Handed::Context {
-        bytes,
-        numbers: count,
-        end,
-    } = contexts::read_context(line, from, &mut block, &mut numbers)
-    else {
-        return output::malformed(out, len);
-    };
-    let b = output::within(bytes, &block);
-    let n = within::numbers(count, &numbers);
+    let mut run = Run::new();
+    let (names, rest) = contexts::read_context(line, &mut block, &mut run)?;
     match wanted {
-        Wanted::Words => {
-            let Lending::Lent(lent) = read_lent(line, end) else {
-                return output::malformed(out, len);
-            };
-            answer_lent(text, &block[..b], &numbers[..n], ceiling, lent, out, len)
-        }
+        Wanted::Words => answer_lent(text, names, run.numbers(), ceiling, read_lent(rest)?, out),
         Wanted::Lines(asked) => {
-            if end < line.len() {
-                return output::malformed(out, len);
+            if !rest.is_empty() {
+                return None;
             }
-            answer_written(asked, text, &block[..b], &numbers[..n], ceiling, out, len)
+            answer_written(asked, text, names, run.numbers(), ceiling, out);
         }
     }
+    Some(())
 }
 
-// The answer to a line whose text starts at an offset. The empty text is `-`.
+// The answer to a line from its text on. The empty text is `-`.
 pub fn answer_resolve(
     wanted: Wanted,
     line: &[u8],
-    from: usize,
     ceiling: u32,
     text: &mut [u8],
-    out: &mut [u8],
-    len: usize,
-) -> usize {
-    let end = output::within(words::word_end(line, from), line);
-    if end <= from {
-        return output::malformed(out, len);
+    out: &mut Output,
+) -> Option<()> {
+    let (word, rest) = words::split_word(line);
+    let context = rest?;
+    if word.is_empty() {
+        return None;
     }
-    if line.len() <= end {
-        return output::malformed(out, len);
-    }
-    let Decoded::Bytes(bytes) = words::decode_word(&line[..end], from, text) else {
-        return output::malformed(out, len);
-    };
-    let n = output::within(bytes, text);
-    answer_context(wanted, line, end + 1, ceiling, &text[..n], out, len)
+    let text = words::decode_word(word, text)?;
+    answer_context(wanted, context, ceiling, text, out)
 }

@@ -1,9 +1,8 @@
 // What is asked about a text alone, and the answer: its tokens, Count, Statement, Print and the profile.
 use crate::statements;
-use print_render::Printed;
-use read_profile::Profiled;
-use read_text::{CountRead, StatementAt};
-use replay_lines::{lexed, output};
+use read_forms::Refusal;
+use replay_lines::lexed;
+use replay_lines::output::Output;
 
 // What is asked about a text; `PrintIn` has the bytes of the output. `Line` and `ProfileLine` are what `mfl` and `mfl --profile` write.
 #[derive(Clone, Copy)]
@@ -18,47 +17,37 @@ pub enum Asked {
     ProfileLine,
 }
 
-fn answer_count(text: &[u8], ceiling: u32, out: &mut [u8], len: usize) -> usize {
+fn answer_count(text: &[u8], ceiling: u32, out: &mut Output) {
     match read_text::count_under(text, ceiling) {
-        CountRead::Count(count) => {
-            let n = output::put_all(out, len, b"ok");
-            output::put_number(out, n, count)
+        Ok(count) => {
+            out.put_all(b"ok");
+            out.put_number(count);
         }
-        CountRead::Refused(r) => output::refused(out, len, r.number as usize, r.place),
+        Err(r) => out.put_refused(r.fault as usize, r.place),
     }
 }
 
-fn answer_statement(text: &[u8], index: usize, ceiling: u32, out: &mut [u8], len: usize) -> usize {
+fn answer_statement(text: &[u8], index: usize, ceiling: u32, out: &mut Output) {
     let value = read_values::value_under(text, index, ceiling);
-    let found = value.found;
-    match found {
-        StatementAt::Statement(statement) => {
-            let n = output::put_all(out, len, b"ok");
-            statements::put_statement(out, n, value, statement)
+    match value.found {
+        Ok(statement) => {
+            out.put_all(b"ok");
+            statements::put_statement(out, &value, statement);
         }
-        StatementAt::Refused(r) => output::refused(out, len, r.number as usize, r.place),
+        Err(r) => out.put_refused(r.fault as usize, r.place),
     }
 }
 
-fn answer_profile(text: &[u8], ceiling: u32, out: &mut [u8], len: usize) -> usize {
+fn answer_profile(text: &[u8], ceiling: u32, out: &mut Output) {
     match read_profile::profile_under(text, ceiling) {
-        Profiled::Fits => output::put_all(out, len, b"ok"),
-        Profiled::Refused(r) => output::refused(out, len, r.number as usize, r.place),
+        Ok(()) => out.put_all(b"ok"),
+        Err(r) => out.put_refused(r.fault as usize, r.place),
     }
-}
-
-// A canonical text in hex digits; the words for the empty one are the caller's.
-fn put_canonical(out: &mut [u8], len: usize, page: &[u8], length: usize, empty: &[u8]) -> usize {
-    if length == 0 {
-        return output::put_all(out, len, empty);
-    }
-    let n = output::put_all(out, len, b"ok ");
-    output::put_hex(out, n, page, 0, length)
 }
 
 // Print into so many bytes of the page. It is larger than any canonical text, so where it has fewer than are asked for the answer is the same.
-fn print_in(text: &[u8], page: &mut [u8], room: usize, ceiling: u32) -> Printed {
-    let n = output::within(room, page);
+fn print_in(text: &[u8], page: &mut [u8], room: usize, ceiling: u32) -> Result<usize, Refusal> {
+    let n = room.min(page.len());
     print_render::print_under(
         text,
         &tokens::CLASSES,
@@ -69,28 +58,23 @@ fn print_in(text: &[u8], page: &mut [u8], room: usize, ceiling: u32) -> Printed 
     )
 }
 
-fn answer_print(
-    text: &[u8],
-    room: usize,
-    ceiling: u32,
-    empty: &[u8],
-    out: &mut [u8],
-    len: usize,
-) -> usize {
+// The canonical text in hex digits; the words for the empty one are the caller's.
+fn answer_print(text: &[u8], room: usize, ceiling: u32, empty: &[u8], out: &mut Output) {
     let mut page = io::large_buffer();
     match print_in(text, &mut page, room, ceiling) {
-        Printed::Length(length) => put_canonical(out, len, &page, length, empty),
-        Printed::Refused(r) => output::refused(out, len, r.number as usize, r.place),
+        Ok(0) => out.put_all(empty),
+        Ok(length) => put_written(out, &page[..length.min(page.len())]),
+        Err(r) => out.put_refused(r.fault as usize, r.place),
     }
 }
 
-// So many bytes that a program writes, in hex digits.
-pub fn put_written(out: &mut [u8], len: usize, page: &[u8], count: usize) -> usize {
-    let n = output::put_all(out, len, b"ok ");
-    output::put_hex(out, n, page, 0, count)
+// Bytes that a program writes, in hex digits.
+pub fn put_written(out: &mut Output, bytes: &[u8]) {
+    out.put_all(b"ok ");
+    out.put_hex(bytes);
 }
 
-fn answer_line(text: &[u8], ceiling: u32, out: &mut [u8], len: usize) -> usize {
+fn answer_line(text: &[u8], ceiling: u32, out: &mut Output) {
     let mut page = io::large_buffer();
     let line = print_answers::print_line(
         text,
@@ -100,24 +84,24 @@ fn answer_line(text: &[u8], ceiling: u32, out: &mut [u8], len: usize) -> usize {
         &mut page,
         ceiling,
     );
-    put_written(out, len, &page, line.count)
+    put_written(out, &page[..line.count.min(page.len())]);
 }
 
-fn answer_profile_line(text: &[u8], ceiling: u32, out: &mut [u8], len: usize) -> usize {
+fn answer_profile_line(text: &[u8], ceiling: u32, out: &mut Output) {
     let mut page = io::large_buffer();
     let line = print_answers::profile_line(text, &mut page, ceiling);
-    put_written(out, len, &page, line.count)
+    put_written(out, &page[..line.count.min(page.len())]);
 }
 
-pub fn answer_text(asked: Asked, ceiling: u32, text: &[u8], out: &mut [u8], len: usize) -> usize {
+pub fn answer_text(asked: Asked, ceiling: u32, text: &[u8], out: &mut Output) {
     match asked {
-        Asked::Tokens => lexed::answer_tokens(text, out, len),
-        Asked::Count => answer_count(text, ceiling, out, len),
-        Asked::Statement(index) => answer_statement(text, index, ceiling, out, len),
-        Asked::Print => answer_print(text, 65536, ceiling, b"ok", out, len),
-        Asked::PrintIn(room) => answer_print(text, room, ceiling, b"ok -", out, len),
-        Asked::Profile => answer_profile(text, ceiling, out, len),
-        Asked::Line => answer_line(text, ceiling, out, len),
-        Asked::ProfileLine => answer_profile_line(text, ceiling, out, len),
+        Asked::Tokens => lexed::answer_tokens(text, out),
+        Asked::Count => answer_count(text, ceiling, out),
+        Asked::Statement(index) => answer_statement(text, index, ceiling, out),
+        Asked::Print => answer_print(text, 65536, ceiling, b"ok", out),
+        Asked::PrintIn(room) => answer_print(text, room, ceiling, b"ok -", out),
+        Asked::Profile => answer_profile(text, ceiling, out),
+        Asked::Line => answer_line(text, ceiling, out),
+        Asked::ProfileLine => answer_profile_line(text, ceiling, out),
     }
 }

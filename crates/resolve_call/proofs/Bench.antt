@@ -17,7 +17,7 @@ use Rattle.resolving.specs.Call.{Lengths, exceeds, lengths_in, room_for, lengths
 use Rattle.resolving_laws.proofs.MergedLaws.{merged_shorter}
 use Rattle.resolving_laws.proofs.Settling.{settled_as}
 use Rattle.resolve_merging.specs.Packing.{effect_of}
-use Rattle.resolve_settling.specs.declared.Resolved.{Resolved}
+use Rattle.resolve_settling.specs.Answers.{Resolved}
 use Rattle.resolve_settling.specs.Answers.{resolved_as, rooms, effects_in, PackedIn, Answers}
 use Rattle.resolve_call.proofs.Packed.{effects-stand}
 

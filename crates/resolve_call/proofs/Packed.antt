@@ -16,7 +16,7 @@ use Rattle.resolving.specs.Resolve.{ground_text}
 use Rattle.resolving.specs.Handed.{resolve_handed}
 use Rattle.resolving.specs.Call.{Lengths, exceeds, lengths_in, room_for, resolving_call, lengths_of, output_of, work_after, working_length}
 use Rattle.resolve_merging.specs.Packing.{effect_of}
-use Rattle.resolve_settling.specs.declared.Resolved.{Resolved}
+use Rattle.resolve_settling.specs.Answers.{Resolved}
 use Rattle.resolve_settling.specs.Answers.{resolved_as, rooms, effects_in, PackedIn, Answers, Packed}
 
 -- a refusal leaves all as it was

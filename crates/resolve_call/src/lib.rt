@@ -11,9 +11,9 @@ ghost use Rattle.reading_laws.specs.Admitted.{Admitted};
 ghost use Rattle.resolve_settling.specs.Attempts.{AttemptAs};
 
 use labels::{Keywords, Labels};
-use read_forms::Admission;
-use resolve_settling::{Attempt, Resolved};
-use resolve_taking::Taken;
+use read_forms::Fault;
+use resolve_merging::Bench;
+use resolve_settling::Resolved;
 use tokens::Classes;
 
 // How many elements the working buffer has to have: as many as there are effects at most.
@@ -22,23 +22,11 @@ pub const WORKING: usize = 2048;
 // A text with at most so many bytes is short: it is tried first with small buffers, which take less time to make.
 pub const SHORT: usize = 1024;
 
-// Buffers of full size, with nothing in them. Their contracts name their lengths alone: where they are used, goals would show each of their numbers.
-fn no_lets() -> [u32; 1024]
-    ensures { length result ≡ 1024 }
+// A buffer of full size, with one value all over. Its contract names its length alone: where it is used, goals would show each of its numbers.
+fn filled<T: Copy, const N: usize>(value: T) -> [T; N]
+    ensures { length result ≡ N }
 {
-    [0; 1024]
-}
-
-fn no_bench() -> [u32; 6656]
-    ensures { length result ≡ 6656 }
-{
-    [0; 6656]
-}
-
-fn no_text() -> [u8; 16384]
-    ensures { length result ≡ 16384 }
-{
-    [0; 16384]
+    [value; N]
 }
 
 // The answer of a text, if small buffers have room for it.
@@ -54,7 +42,7 @@ fn resolve_short(
     notes: &mut [[u8; 2]],
     work: &mut [u32],
     limit: u32,
-) -> Attempt
+) -> Option<Resolved>
     requires { (classes.now ≡ class_table) × (labels.now ≡ label_table) × (keys.now ≡ keyword_table)
         × Admitted limit text.now × (2048 ≤ length work.old) }
     ensures { AttemptAs (resolve_handed limit block.now lists.now text.now)
@@ -76,17 +64,12 @@ fn resolve_short(
         work,
         &mut dropped,
         &mut made,
-    ) {
-        Taken::Tally(tally) => tally,
-        Taken::Refused(r) => {
-            return Attempt::Answer(Resolved::Refused(r));
-        }
-        Taken::Full => {
-            return Attempt::NoRoom;
-        }
+    )? {
+        Ok(tally) => tally,
+        Err(refusal) => return Some(Err(refusal)),
     };
     if resolve_settling::FEW_TERMS < tally.terms {
-        return Attempt::NoRoom;
+        return None;
     }
     resolve_settling::settle_few(
         block,
@@ -125,11 +108,11 @@ fn resolve_long(
         ground.old room notes.old
         ground.new notes.new work.new result }
 {
-    let mut lets = no_lets();
+    let mut lets: [u32; 1024] = filled(0);
     let mut dropped = [0; 256];
-    let mut bench = no_bench();
-    let mut made = no_text();
-    let tally = match resolve_taking::take_text(
+    let mut bench: Bench = filled(0);
+    let mut made: [u8; 16384] = filled(0);
+    let Some(taken) = resolve_taking::take_text(
         text,
         classes,
         labels,
@@ -141,16 +124,11 @@ fn resolve_long(
         &mut bench,
         &mut dropped,
         &mut made,
-    ) {
-        Taken::Tally(tally) => tally,
-        Taken::Refused(r) => {
-            return Resolved::Refused(r);
-        }
-        Taken::Full => {
-            return resolve_settling::refuse(resolve_settling::TOO_LARGE, 0);
-        }
+    ) else {
+        return resolve_settling::refuse(Fault::TooLarge, 0);
     };
-    match resolve_settling::settle(
+    let tally = taken?;
+    let Some(resolved) = resolve_settling::settle(
         block,
         lists,
         labels,
@@ -163,13 +141,11 @@ fn resolve_long(
         room,
         notes,
         &mut bench,
-    ) {
-        Attempt::Answer(resolved) => {
-            resolve_outputs::put_packed(work, &bench, effect_count(resolved));
-            resolved
-        }
-        Attempt::NoRoom => resolve_settling::refuse(resolve_settling::TOO_LARGE, 0),
-    }
+    ) else {
+        return resolve_settling::refuse(Fault::TooLarge, 0);
+    };
+    resolve_outputs::put_first(work, &bench, effect_count(resolved));
+    resolved
 }
 
 // The answer, with a working buffer that is long enough.
@@ -188,12 +164,7 @@ fn resolve_in(
         ground.old room notes.old
         ground.new notes.new work.new result }
 {
-    match read_forms::admit(text, limit) {
-        Admission::Refused(r) => {
-            return Resolved::Refused(r);
-        }
-        Admission::Fine => {}
-    }
+    read_forms::admit(text, limit)?;
     let classes = tokens::CLASSES;
     let labels = labels::LABELS;
     let keys = labels::KEYWORDS;
@@ -205,8 +176,8 @@ fn resolve_in(
     match resolve_short(
         text, &classes, &labels, &keys, block, lists, ground, room, notes, work, limit,
     ) {
-        Attempt::Answer(resolved) => resolved,
-        Attempt::NoRoom => resolve_long(
+        Some(resolved) => resolved,
+        None => resolve_long(
             text, &classes, &labels, &keys, block, lists, ground, room, notes, work, limit,
         ),
     }
@@ -231,7 +202,7 @@ pub fn resolve_packed(
         ground.old notes.old work.old ground.new notes.new work.new }
 {
     if work.len() < WORKING {
-        return resolve_settling::refuse(read_forms::TOO_SHORT, 0);
+        return resolve_settling::refuse(Fault::TooShort, 0);
     }
     resolve_in(text, block, lists, ground, room, notes, work, limit)
 }
@@ -241,8 +212,8 @@ pub fn effect_count(resolved: Resolved) -> usize
     ensures { result ≡ effects_in (resolved_as resolved) }
 {
     match resolved {
-        Resolved::Lengths(n) => n.effects,
-        Resolved::Refused(_) => 0,
+        Ok(n) => n.effects,
+        Err(_) => 0,
     }
 }
 

@@ -65,20 +65,6 @@ heads_of l h =
       columns = leb-true _ 64 g.0;
     }
 
--- the last test decides where the others pass
-pub last-mark_decides : (l : List ℕ) → Heads l → mark_fits (get_or l 5 0) (get_or l 2 0) ≡ true → heads_fit l ≡ mark_fits (get_or l 6 0) (get_or l 3 0)
-unfolding heads_fit
-last-mark_decides l h m =
-    simp (
-      le-leb 7 _ h.long,
-      le-leb (get_or l 0 0) 64 h.parameters,
-      le-leb (get_or l 1 0) 64 h.iiv,
-      le-leb (get_or l 2 0) 64 h.template,
-      le-leb (get_or l 3 0) 64 h.declared,
-      le-leb (get_or l 4 0) 64 h.columns,
-      m,
-    )
-
 -- each list lies in a run that is as long as it says
 module _ (l : List ℕ) (h : past_all l ≡ length l) where
   pub parameters_in : InRun l (layout_of l).parameters
@@ -167,33 +153,3 @@ module _ (b l : List ℕ) where
 
   pub lists_decide : length b ≤ 16384 → heads_fit l ≡ true → past_all l ≡ length l → is_handed b l ≡ lists_fit b l
   lists_decide h k e = handed_by b l ∙ simp (le-leb (length b) 16384 h, k, eq-eqb (past_all l) (length l) e)
-
-  pub parameters_amiss : order_of b l (layout_of l).parameters ≡ false → lists_fit b l ≡ false
-  unfolding lists_fit
-  parameters_amiss e = simp e
-
-  pub iiv_amiss : order_of b l (layout_of l).iiv ≡ false → lists_fit b l ≡ false
-  unfolding lists_fit
-  iiv_amiss e = simp (e, and-false)
-
-  pub template_amiss : order_of b l (both_of (layout_of l).template) ≡ false → lists_fit b l ≡ false
-  unfolding lists_fit
-  template_amiss e = simp (e, and-false)
-
-  pub declared_amiss : order_of b l (layout_of l).declared ≡ false → lists_fit b l ≡ false
-  unfolding lists_fit
-  declared_amiss e = simp (e, and-false)
-
-  pub columns_amiss : order_of b l (layout_of l).columns ≡ false → lists_fit b l ≡ false
-  unfolding lists_fit
-  columns_amiss e = simp (e, and-false)
-
-  pub kinds_decide :
-      order_of b l (layout_of l).parameters ≡ true
-      → order_of b l (layout_of l).iiv ≡ true
-      → order_of b l (both_of (layout_of l).template) ≡ true
-      → order_of b l (layout_of l).declared ≡ true
-      → order_of b l (layout_of l).columns ≡ true
-      → lists_fit b l ≡ kinds_fit l (layout_of l).declared
-  unfolding lists_fit
-  kinds_decide p q r s t = simp (p, q, r, s, t)

@@ -1,6 +1,5 @@
 pub mod Naming
 pub mod Pairs
-pub mod Equal
 pub mod Heads
 pub mod Places
 pub mod Meaning

@@ -39,30 +39,29 @@ use Rattle.resolve_context.specs.Lists.{
 }
 use Rattle.resolve_context.specs.declared.Names.{Names}
 use Rattle.resolve_context.specs.declared.Layout.{Layout}
-use Rattle.resolve_context.specs.declared.Checked.{Checked}
-use Rattle.resolve_context.specs.declared.Checked.TheVariants as checked
+use Rattle.std.specs.Prelude as prelude
 use Rattle.resolve_context.proofs.Pairs.{kinds_at, sound_at, name-is, kind-is, length-bindings, length_declared}
 use Rattle.resolve_context.proofs.Heads.{Heads, heads_of, handed_by}
 
 -- What the check answers.
 module _ (b l : List ℕ) where
-  pub is_context : is_handed b l ≡ true → checked_as b l ≡ checked.Context (layout_of l)
+  pub is_context : is_handed b l ≡ true → checked_as b l ≡ prelude.Some (layout_of l)
   unfolding checked_as
   is_context h = rw h
 
-  pub is-wrong : is_handed b l ≡ false → checked_as b l ≡ checked.Wrong
+  pub is-wrong : is_handed b l ≡ false → checked_as b l ≡ prelude.None
   unfolding checked_as
   is-wrong h = rw h
 
-abbrev layout_in : Layout → Checked → Layout
-layout_in y (checked.Context z) = z
-layout_in y checked.Wrong = y
+abbrev layout_in : Layout → prelude.Option Layout → Layout
+layout_in y (prelude.Some z) = z
+layout_in y prelude.None = y
 
-abbrev is_wrong : Checked → Bool
-is_wrong (checked.Context z) = false
-is_wrong checked.Wrong = true
+abbrev is_wrong : prelude.Option Layout → Bool
+is_wrong (prelude.Some z) = false
+is_wrong prelude.None = true
 
-pub checked_stands : (b l : List ℕ) (y : Layout) → checked_as b l ≡ checked.Context y → Stands b l y
+pub checked_stands : (b l : List ℕ) (y : Layout) → checked_as b l ≡ prelude.Some y → Stands b l y
 unfolding checked_as
 checked_stands b l y e = by_cases (is_handed b l) refl
   where
@@ -70,7 +69,7 @@ checked_stands b l y e = by_cases (is_handed b l) refl
     by_cases true h = record { is = h; there = ap (layout_in y) (sym e ∙ is_context b l h) }
     by_cases false h = let w : true ≡ false = ap is_wrong (sym (is-wrong b l h) ∙ e) in absurd (false≢true (sym w))
 
-pub checked_wrong : (b l : List ℕ) → checked_as b l ≡ checked.Wrong → is_handed b l ≡ false
+pub checked_wrong : (b l : List ℕ) → checked_as b l ≡ prelude.None → is_handed b l ≡ false
 checked_wrong b l e = by_cases (is_handed b l) refl
   where
     by_cases : (t : Bool) → is_handed b l ≡ t → is_handed b l ≡ false

@@ -17,11 +17,6 @@ use Rattle.resolving.specs.Handed.{pair_at, pairs_at, bindings_at, declared_at}
 use Rattle.resolve_context.specs.Lists.{names_in, kinds_in, Sound}
 use Rattle.resolve_context.specs.declared.Names.{Names}
 
--- a product with one entry more
-pub product_more : (step n : ℕ) → 0 < n → step * n ≡ step + step * (n - 1)
-product_more step zero h = absurd (omega arith)
-product_more step (suc n) h = mul-suc step n ∙ (let e : n ≡ suc n - 1 = omega arith in omega (arith, ap (λ (k : ℕ). step * k) e))
-
 module _ (l : List ℕ) where
   pub pairs_more : (i step n : ℕ) → 0 < n → pairs_at l i step n ≡ pair_at l i ∷ pairs_at l (i + step) step (n - 1)
   unfolding pairs_at

@@ -12,8 +12,7 @@ use lib.ListN.{length, get_or, drop, drop_of_length-le}
 use lib.Seq.{drop-cons}
 use Rattle.text.specs.Lists.{later_by_one, place_in}
 use Rattle.resolve_context.specs.Lists.{found_as}
-use Rattle.resolve_context.specs.declared.Found.{Found}
-use Rattle.resolve_context.specs.declared.Found.TheVariants.{Place, Nothing}
+use Rattle.std.specs.Prelude as prelude
 
 -- a place, counted on from k
 abbrev pub counted : ℕ → Option ℕ → Option ℕ
@@ -40,25 +39,25 @@ module _ (p : List ℕ → Bool) (ws : List (List ℕ)) where
   pub passed-more : (k : ℕ) → k < length ws → Passed k → p (get_or ws k []) ≡ false → Passed (k + 1)
   passed-more k h q e = q ∙ simp (drop-cons ws k [] h, e, add-one k) (counted_next k (place_in p (drop (suc k) ws)) ∙ rw (add-one k))
 
-  pub passed-found : (k : ℕ) → k < length ws → Passed k → p (get_or ws k []) ≡ true → found_as (place_in p ws) ≡ Place k
+  pub passed-found : (k : ℕ) → k < length ws → Passed k → p (get_or ws k []) ≡ true → found_as (place_in p ws) ≡ prelude.Some k
   passed-found k h q e = let found : place_in p ws ≡ some k = q ∙ simp (drop-cons ws k [] h, e, add-zero k) in ap found_as found
 
-  pub passed-all : (k : ℕ) → length ws ≤ k → Passed k → found_as (place_in p ws) ≡ Nothing
+  pub passed-all : (k : ℕ) → length ws ≤ k → Passed k → found_as (place_in p ws) ≡ prelude.None
   passed-all k h q = let nowhere : place_in p ws ≡ none = q ∙ simp (drop_of_length-le ws h) in ap found_as nowhere
 
 -- what an answer says of the place
-abbrev is_place : Found → Bool
-is_place (Place i) = true
-is_place Nothing = false
+abbrev is_place : prelude.Option ℕ → Bool
+is_place (prelude.Some i) = true
+is_place prelude.None = false
 
-abbrev place_of : Found → ℕ
-place_of (Place i) = i
-place_of Nothing = 0
+abbrev place_of : prelude.Option ℕ → ℕ
+place_of (prelude.Some i) = i
+place_of prelude.None = 0
 
-pub found_nowhere : (o : Option ℕ) → found_as o ≡ Nothing → o ≡ none
+pub found_nowhere : (o : Option ℕ) → found_as o ≡ prelude.None → o ≡ none
 found_nowhere none e = refl
 found_nowhere (some i) e = absurd (false≢true (ap is_place (sym e)))
 
-pub found_at : (o : Option ℕ) (k : ℕ) → found_as o ≡ Place k → o ≡ some k
+pub found_at : (o : Option ℕ) (k : ℕ) → found_as o ≡ prelude.Some k → o ≡ some k
 found_at none k e = absurd (false≢true (ap is_place e))
 found_at (some i) k e = ap {B = Option ℕ} some (ap place_of e)

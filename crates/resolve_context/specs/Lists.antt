@@ -1,20 +1,14 @@
 -- The lists of a context where they stand in the run of numbers, and what is answered about them.
 use Rattle.std.specs.Prelude.{ℕ, ◌+◌, ◌*◌, ◌≤◌, Bool, true, cond, ◌&&◌, ◌||◌, List, [], ◌∷◌, map, ◌≡◌, eqb, leb, length, get_or}
+use Rattle.std.specs.Prelude as prelude
 use Rattle.std.proofs.Math.Option.{Option, some, none}
 use Rattle.text.specs.Bytes.{every}
-use Rattle.labels.specs.Word.{same_word}
-use Rattle.text.specs.Lists.{all, same_bytes}
+use Rattle.text.specs.Lists.{all}
 use Rattle.resolving.specs.Context.{Binding, Declared}
 use Rattle.resolving.specs.Given.{Pair, is_entry, in_order, spelled, binding_in, declared_in}
 use Rattle.resolving.specs.Handed.{pairs_at, bindings_at, declared_at, iiv_start, template_start, declared_start, columns_start, is_handed}
 use Rattle.resolve_context.specs.declared.Names.{Names}
 use Rattle.resolve_context.specs.declared.Layout.{Layout}
-use Rattle.resolve_context.specs.declared.Checked.{Checked}
-use Rattle.resolve_context.specs.declared.Checked.TheVariants.{Context, Wrong}
-use Rattle.resolve_context.specs.declared.Comparing.{Comparing}
-use Rattle.resolve_context.specs.declared.Comparing.TheVariants.{Bytes, Words}
-use Rattle.resolve_context.specs.declared.Found.{Found}
-use Rattle.resolve_context.specs.declared.Found.TheVariants.{Place, Nothing}
 
 abbrev pub list_at : ℕ → ℕ → ℕ → Names
 list_at i n step = record { start = i; count = n; step = step }
@@ -44,8 +38,8 @@ abbrev pub covariates_of : Layout → Names
 covariates_of y = cond y.declares y.declared y.columns
 
 -- What the check answers.
-unfoldable pub checked_as : List ℕ → List ℕ → Checked
-checked_as b l = cond (is_handed b l) (Context (layout_of l)) Wrong
+unfoldable pub checked_as : List ℕ → List ℕ → prelude.Option Layout
+checked_as b l = cond (is_handed b l) (prelude.Some (layout_of l)) prelude.None
 
 -- a context that was checked, and where its lists stand
 pub record Stands (b l : List ℕ) (y : Layout) : Type 0 where
@@ -74,15 +68,10 @@ pub record Sound (b l : List ℕ) (n : Names) : Type 0 where
   pub named : all (is_entry b) (pairs_in l n) ≡ true
   pub few : n.count ≤ 64
 
--- How two names are compared.
-abbrev pub same_by : Comparing → List ℕ → List ℕ → Bool
-same_by Bytes = same_bytes
-same_by Words = same_word
-
 -- The place of a name in a list, as it is answered.
-abbrev pub found_as : Option ℕ → Found
-found_as none = Nothing
-found_as (some i) = Place i
+abbrev pub found_as : Option ℕ → prelude.Option ℕ
+found_as none = prelude.None
+found_as (some i) = prelude.Some i
 
 -- The tests of a context, in the order in which they are made.
 

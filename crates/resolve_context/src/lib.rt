@@ -1,20 +1,19 @@
 // A context as it is handed over: a block of name bytes and one run of numbers. It is checked once; then its lists are read in place.
 #![tactic(auto)]
 
-ghost use Rattle.std.specs.Prelude.{◌≡◌, ◌+◌, ◌*◌, ◌≤◌, ◌<◌, [], length, get_or, true, eqb};
+ghost use Rattle.std.specs.Prelude.{◌≡◌, ◌+◌, ◌*◌, ◌≤◌, ◌<◌, ℕ, Bool, List, [], length, get_or, true};
 ghost use Rattle.std.proofs.Math.Option.{some};
 ghost use Rattle.tokens.specs.Class.{class_table};
 ghost use Rattle.tokens.specs.Spelling.{is_name};
 ghost use Rattle.labels.specs.Word.{same_word};
 ghost use Rattle.text.specs.Lists.{same_bytes, place_in};
-ghost use Rattle.resolving.specs.Context.{kind_number};
 ghost use Rattle.resolving.specs.Effects.{every_form, is_cat, suits as suits·spec};
 ghost use Rattle.resolving.specs.Given.{is_entry, kind_of};
 ghost use Rattle.resolving.specs.Handed.{pair_of, past_all, is_handed};
 ghost use Rattle.read_packs.specs.Packs.{places};
 ghost use Rattle.read_forms.specs.Items.{name_in};
 ghost use Rattle.read_forms.specs.Fits.{InText};
-ghost use Rattle.resolve_context.specs.Lists.{layout_of, checked_as, same_by, found_as, Sound, InRun, names_in, kinds_in, both_of, variables_of, covariates_of};
+ghost use Rattle.resolve_context.specs.Lists.{layout_of, checked_as, found_as, Sound, InRun, names_in, kinds_in, both_of, variables_of, covariates_of};
 ghost use Rattle.resolve_context.specs.Kinds.{kind_as};
 ghost use Rattle.resolve_context.specs.Lists.{mark_fits, heads_fit, order_of, kinds_fit, lists_fit};
 
@@ -41,31 +40,25 @@ pub struct Layout {
     pub declares: bool,
 }
 
-#[derive(Clone, Copy)]
-pub enum Checked {
-    Context(Layout),
-    Wrong,
-}
-
-// The place of a name in a list, or none.
-#[derive(Clone, Copy)]
-pub enum Found {
-    Place(usize),
-    Nothing,
-}
-
-// The kind of a covariate. A `match` on it has an arm for each kind and no default, so that one kind more shows every place that goes by kinds.
-#[derive(Clone, Copy)]
+// The kind of a covariate, by its number in the run. A `match` on it has an arm for each kind and no default, so that one kind more shows every place
+// that goes by kinds.
+#[derive(Clone, Copy, PartialEq, Eq)]
 pub enum Kind {
-    Continuous,
-    Categorical,
+    Continuous = 0,
+    Categorical = 1,
 }
 
-// How two names are compared: byte for byte, or as words, ignoring case.
-#[derive(Clone, Copy)]
-enum Comparing {
-    Bytes,
-    Words,
+// Any number but 0 stands for the second kind.
+impl From<u32> for Kind {
+    ghost from_gives = { λ number kind. kind_as kind ≡ kind_of number };
+
+    fn from(number: u32) -> Self {
+        if number == 0 {
+            Kind::Continuous
+        } else {
+            Kind::Categorical
+        }
+    }
 }
 
 // Whether all the bytes together are one word or one number.
@@ -73,10 +66,7 @@ pub fn is_name(name: &[u8], classes: &Classes) -> bool
     requires { classes.now ≡ class_table }
     ensures { result ≡ is_name name.now }
 {
-    if name.len() == 0 {
-        return false;
-    }
-    if classes[name[0] as usize] < 8 {
+    if name.is_empty() || classes[name[0] as usize] < 8 {
         return false;
     }
     let c = Cursor::new();
@@ -90,20 +80,11 @@ fn is_entry(block: &[u8], classes: &Classes, offset: usize, size: usize) -> bool
     requires { classes.now ≡ class_table }
     ensures { result ≡ is_entry block.now (pair_of offset size) }
 {
-    if size < 1 {
-        return false;
-    }
-    if 32 < size {
-        return false;
-    }
-    if block.len() < size {
-        return false;
-    }
-    if block.len() - size < offset {
-        return false;
-    }
-    let end = offset + size;
-    is_name(&block[offset..end], classes)
+    1 <= size
+        && size <= 32
+        && size <= block.len()
+        && offset <= block.len() - size
+        && is_name(&block[offset..offset + size], classes)
 }
 
 // A template's roles and variables as one list.
@@ -112,9 +93,9 @@ fn both_of(names: Names) -> Names
     ensures { result ≡ both_of names }
 {
     Names {
-        start: names.start,
         count: 2 * names.count,
         step: 2,
+        ..names
     }
 }
 
@@ -125,8 +106,7 @@ pub fn variables_of(names: Names) -> Names
 {
     Names {
         start: names.start + 2,
-        count: names.count,
-        step: names.step,
+        ..names
     }
 }
 
@@ -153,10 +133,9 @@ fn in_order(block: &[u8], classes: &Classes, lists: &[u32], names: Names) -> boo
     requires { (classes.now ≡ class_table) × InRun lists.now names }
     ensures { result ≡ order_of block.now lists.now names }
 {
-    let mut left = names.count;
-    let mut at = names.start;
     let mut end = 0;
-    while 0 < left {
+    for i in 0..names.count {
+        let at = names.start + names.step * i;
         let offset = lists[at] as usize;
         let size = lists[at + 1] as usize;
         if !is_entry(block, classes, offset, size) {
@@ -166,8 +145,6 @@ fn in_order(block: &[u8], classes: &Classes, lists: &[u32], names: Names) -> boo
             return false;
         }
         end = offset + size;
-        at += names.step;
-        left -= 1;
     }
     true
 }
@@ -177,14 +154,10 @@ fn kinds_fit(lists: &[u32], names: Names) -> bool
     requires { names.start + 3 * names.count ≤ length lists.now }
     ensures { result ≡ kinds_fit lists.now names }
 {
-    let mut left = names.count;
-    let mut at = names.start;
-    while 0 < left {
-        if 1 < lists[at + 2] {
+    for i in 0..names.count {
+        if 1 < lists[names.start + 3 * i + 2] {
             return false;
         }
-        at += 3;
-        left -= 1;
     }
     true
 }
@@ -193,17 +166,7 @@ fn kinds_fit(lists: &[u32], names: Names) -> bool
 pub fn same_bytes(left: &[u8], right: &[u8]) -> bool
     ensures { result ≡ same_bytes left.now right.now }
 {
-    if left.len() != right.len() {
-        return false;
-    }
-    let mut i = 0;
-    while i < left.len() {
-        if left[i] != right[i] {
-            return false;
-        }
-        i += 1;
-    }
-    true
+    left == right
 }
 
 // Where the name of an entry stands in the block.
@@ -230,72 +193,34 @@ pub fn name_at<'a>(block: &'a [u8], lists: &[u32], names: Names, index: usize) -
     &block[start..end]
 }
 
-// Whether two names are the same, by how they are compared.
-fn same_by(how: Comparing, left: &[u8], right: &[u8]) -> bool
-    ensures { result ≡ same_by how left.now right.now }
+// The place of the first entry that passes a test.
+fn first<F: Fn(&[u8]) -> bool>(block: &[u8], lists: &[u32], names: Names, test: F) -> Option<usize>
+    requires { F.IsAlwaysCallable test × Sound block.now lists.now names }
+    ensures { (p : List ℕ → Bool) → ((w : _) (b : Bool) → F.post test w b → b ≡ p w.now)
+        → result ≡ found_as (place_in p (names_in block.now lists.now names)) }
 {
-    match how {
-        Comparing::Bytes => same_bytes(left, right),
-        Comparing::Words => labels::same_word(left, right),
-    }
-}
-
-// The place of the first entry that is the same.
-fn first_same(block: &[u8], lists: &[u32], names: Names, how: Comparing, name: &[u8]) -> Found
-    requires { Sound block.now lists.now names }
-    ensures { result ≡ found_as (place_in (same_by how name.now) (names_in block.now lists.now names)) }
-{
-    let mut i = 0;
-    while i < names.count {
-        let entry = name_at(block, lists, names, i);
-        if same_by(how, name, entry) {
-            return Found::Place(i);
+    for i in 0..names.count {
+        if test(name_at(block, lists, names, i)) {
+            return Some(i);
         }
-        i += 1;
     }
-    Found::Nothing
+    None
 }
 
 // The place of the first entry that has these bytes.
-pub fn index_of(block: &[u8], lists: &[u32], names: Names, name: &[u8]) -> Found
+pub fn index_of(block: &[u8], lists: &[u32], names: Names, name: &[u8]) -> Option<usize>
     requires { Sound block.now lists.now names }
     ensures { result ≡ found_as (place_in (same_bytes name.now) (names_in block.now lists.now names)) }
 {
-    first_same(block, lists, names, Comparing::Bytes, name)
+    first(block, lists, names, |entry| same_bytes(name, entry))
 }
 
 // The place of the first entry that is the same word, ignoring case: a template's variable among the parameters.
-pub fn match_of(block: &[u8], lists: &[u32], names: Names, word: &[u8]) -> Found
+pub fn match_of(block: &[u8], lists: &[u32], names: Names, word: &[u8]) -> Option<usize>
     requires { Sound block.now lists.now names }
     ensures { result ≡ found_as (place_in (same_word word.now) (names_in block.now lists.now names)) }
 {
-    first_same(block, lists, names, Comparing::Words, word)
-}
-
-// The kind that a number of the run stands for.
-pub fn kind_of(number: u32) -> Kind
-    ensures { kind_as result ≡ kind_of number }
-{
-    if number == 0 {
-        return Kind::Continuous;
-    }
-    Kind::Categorical
-}
-
-// The number of a kind in the run.
-pub fn number_of(kind: Kind) -> u32
-    ensures { result ≡ kind_number (kind_as kind) }
-{
-    match kind {
-        Kind::Continuous => 0,
-        Kind::Categorical => 1,
-    }
-}
-
-pub fn same_kind(one: Kind, other: Kind) -> bool
-    ensures { result ≡ eqb (kind_number (kind_as one)) (kind_number (kind_as other)) }
-{
-    number_of(one) == number_of(other)
+    first(block, lists, names, |entry| labels::same_word(word, entry))
 }
 
 // The kind of a declared covariate.
@@ -303,7 +228,7 @@ pub fn kind_at(lists: &[u32], names: Names, index: usize) -> Kind
     requires { (index < names.count) × (names.start + 3 * names.count ≤ length lists.now) }
     ensures { kind_as result ≡ kind_of (get_or (kinds_in lists.now names) index 0) }
 {
-    kind_of(lists[names.start + 3 * index + 2])
+    Kind::from(lists[names.start + 3 * index + 2])
 }
 
 // The forms of effect `*` on a covariate of a kind, packed: the four of CONTINUOUS, or Cat.
@@ -319,10 +244,7 @@ pub fn every_form(kind: Kind) -> u32
 fn is_cat(form: u32) -> bool
     ensures { result ≡ is_cat form }
 {
-    if form == 4 {
-        return true;
-    }
-    form == 5
+    form == 4 || form == 5
 }
 
 // Cat and Cat2 suit categorical covariates, the other forms continuous ones.
@@ -339,41 +261,17 @@ pub fn suits(kind: Kind, form: u32) -> bool
 fn mark_fits(mark: u32, count: u32) -> bool
     ensures { result ≡ mark_fits mark count }
 {
-    if mark == 1 {
-        return true;
-    }
-    if 1 < mark {
-        return false;
-    }
-    count == 0
+    mark == 1 || mark == 0 && count == 0
 }
 
 // Whether the counts and the marks are as they should be: at most 64 entries each, and none without a mark.
 fn heads_fit(lists: &[u32]) -> bool
     ensures { result ≡ heads_fit lists.now }
 {
-    if lists.len() < 7 {
-        return false;
-    }
-    if 64 < lists[0] {
-        return false;
-    }
-    if 64 < lists[1] {
-        return false;
-    }
-    if 64 < lists[2] {
-        return false;
-    }
-    if 64 < lists[3] {
-        return false;
-    }
-    if 64 < lists[4] {
-        return false;
-    }
-    if !mark_fits(lists[5], lists[2]) {
-        return false;
-    }
-    mark_fits(lists[6], lists[3])
+    7 <= lists.len()
+        && lists[..5].iter().all(|count| *count <= 64)
+        && mark_fits(lists[5], lists[2])
+        && mark_fits(lists[6], lists[3])
 }
 
 // The lists stand one behind the other, behind the counts and the marks.
@@ -427,22 +325,12 @@ fn lists_stand(block: &[u8], classes: &Classes, lists: &[u32], layout: Layout) -
         × (heads_fit lists.now ≡ true) × (past_all lists.now ≡ length lists.now) }
     ensures { result ≡ lists_fit block.now lists.now }
 {
-    if !in_order(block, classes, lists, layout.parameters) {
-        return false;
-    }
-    if !in_order(block, classes, lists, layout.iiv) {
-        return false;
-    }
-    if !in_order(block, classes, lists, both_of(layout.template)) {
-        return false;
-    }
-    if !in_order(block, classes, lists, layout.declared) {
-        return false;
-    }
-    if !in_order(block, classes, lists, layout.columns) {
-        return false;
-    }
-    kinds_fit(lists, layout.declared)
+    in_order(block, classes, lists, layout.parameters)
+        && in_order(block, classes, lists, layout.iiv)
+        && in_order(block, classes, lists, both_of(layout.template))
+        && in_order(block, classes, lists, layout.declared)
+        && in_order(block, classes, lists, layout.columns)
+        && kinds_fit(lists, layout.declared)
 }
 
 // Whether what is handed over is a context.
@@ -450,26 +338,20 @@ fn stands(block: &[u8], classes: &Classes, lists: &[u32]) -> bool
     requires { classes.now ≡ class_table }
     ensures { result ≡ is_handed block.now lists.now }
 {
-    if 16384 < block.len() {
-        return false;
-    }
-    if !heads_fit(lists) {
+    if 16384 < block.len() || !heads_fit(lists) {
         return false;
     }
     let layout = read_layout(lists);
-    if past(layout.columns) != lists.len() {
-        return false;
-    }
-    lists_stand(block, classes, lists, layout)
+    past(layout.columns) == lists.len() && lists_stand(block, classes, lists, layout)
 }
 
-// The context's lists, or that it is not as it should be.
-pub fn check(block: &[u8], classes: &Classes, lists: &[u32]) -> Checked
+// The context's lists, if it is as it should be.
+pub fn check(block: &[u8], classes: &Classes, lists: &[u32]) -> Option<Layout>
     requires { classes.now ≡ class_table }
     ensures { result ≡ checked_as block.now lists.now }
 {
     if stands(block, classes, lists) {
-        return Checked::Context(read_layout(lists));
+        return Some(read_layout(lists));
     }
-    Checked::Wrong
+    None
 }

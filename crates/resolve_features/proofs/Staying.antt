@@ -1,7 +1,8 @@
 -- What a feature comes to, from what was printed of it.
 -- Assumes nothing.
+use Rattle.read_forms.specs.declared.Fault.{Fault}
+use Rattle.read_forms.specs.Faults.{number_of}
 use Prim.Native.Nat.{ℕ, ◌≤◌}
-use native.Mathlib.Omega.{arith}
 use mathlib.Core.Path.{◌≡◌, refl, ◌∙◌, ap, sym, subst}
 use mathlib.Core.Bool.{Bool, true, false, false≢true}
 use mathlib.Core.List.{List, [], ◌∷◌, ◌++◌}
@@ -17,27 +18,27 @@ use Rattle.labels.specs.declared.Family.TheVariants.{VariabilityEffect, Variabil
 use Rattle.labels.specs.Label.{keywords}
 use Rattle.reading.specs.Answer.{Answer, accepted, refused}
 use Rattle.reading.specs.Parts.{Parts, parts_of}
-use Rattle.reading.specs.Statement.{Feature, feature, Allometry, Iiv, Iov, Covariance}
+use Rattle.reading.specs.Statement.{Feature, feature, Iiv, Iov, Covariance}
 use Rattle.canonical.specs.Canonical.{modes_shapes, statement_shapes, taken_shapes}
 use Rattle.read_forms.specs.declared.Name.{Name}
-use Rattle.read_forms.specs.declared.SomeName.{SomeName}
+use Rattle.read_forms.specs.declared.Name as form_name
 use Rattle.read_forms.specs.declared.Modes.{Modes}
 use Rattle.read_forms.specs.declared.Operand.{Operand}
 use Rattle.read_forms.specs.declared.Feature as forms
 use Rattle.read_forms.specs.declared.Feature.TheVariants as form
 use Rattle.read_forms.specs.declared.Statement.TheVariants as statement
 use Rattle.read_forms.specs.Items.{name_in}
-use Rattle.read_forms.specs.Forms.{modes_in, operand_in, some_name_in, feature_in, statement_in}
+use Rattle.read_forms.specs.Forms.{modes_in, operand_in, some_in, feature_in, statement_in}
 use Rattle.read_forms.specs.contracts.Feature.{the_type}
 use Rattle.read_parts.specs.Apart.{one, feature_apart, apart}
 use Rattle.read_parts.specs.Meaning.{parts_in}
 use Rattle.read_parts.proofs.Meaning.{taken}
 use Rattle.print_writing.specs.Written.{Written}
-use Rattle.canonical.specs.Lines.{joint_of, piece_of}
+use Rattle.canonical.specs.Lines.{joint_of}
 use Rattle.text.specs.Lists.{place_in, same_bytes}
 use Rattle.resolving.specs.Context.{Context, covariates}
 use Rattle.resolving.specs.Symbols.{Meaning}
-use Rattle.resolving.specs.Brought.{Brought, dropped, stays, whole, listed, drop_if, bring_feature}
+use Rattle.resolving.specs.Brought.{Brought, stays, whole, listed, drop_if, bring_feature}
 use Rattle.resolving.specs.Handed.{handed_context}
 use Rattle.resolve_operands.specs.Entries.{meaning_in, parameters_in}
 use Rattle.print_statements.proofs.Bytes.{call_bytes}
@@ -57,9 +58,8 @@ use Rattle.resolve_grounding.proofs.Features.{
   iov_bytes,
   covariance_bytes,
 }
-use Rattle.resolve_features.specs.declared.Stay.{Stay}
-use Rattle.resolve_features.specs.declared.Stay.TheVariants.{Next, Dropped, Refused}
-use Rattle.resolve_features.specs.Stays.{is_covariate, alone_bytes, is_some, Short, Stood, StayAs, VariablesStood, VariablesDropped, VariablesAs}
+use Rattle.std.specs.Prelude as prelude
+use Rattle.resolve_features.specs.Stays.{is_covariate, alone_bytes, is_some, Short, Stood, StayAs, VariablesAs}
 use Rattle.resolve_features.proofs.Variables.{piece-small}
 
 -- Statements whose modes are made whole.
@@ -101,17 +101,17 @@ module _
     (off : (q : ℕ) → parameters_in s lets n b l star ps ≡ refused q 0 → a ≡ refused q 0)
     (same : (is : List ℕ) → spell_all (statement_shapes (feature (ground is))) ≡ variable_bytes k m (handed_context b l).parameters is f (whole f (modes_in ms)) named)
     (before : ℕ) (old : List ℕ) (at : ℕ) (new : List ℕ) where
-  pub variables_stay : (r : Stay) → VariablesAs s b l lets n star least k m ps f ms named before old at new r → StayAs a before old at new r
+  pub variables_stay : (r : prelude.Result (prelude.Option ℕ) Fault) → VariablesAs s b l lets n star least k m ps f ms named before old at new r → StayAs a before old at new r
   unfolding VariablesAs StayAs
-  variables_stay (Next r) v = record {
+  variables_stay (prelude.Ok (prelude.Some r)) v = record {
     left = ground v.indexes;
     brought = on v.indexes v.found ∙ ap (λ (t : Bool). accepted (drop_if t (stays (ground v.indexes)))) v.enough;
     written = subst (λ (x : List ℕ). Written old at (joint_of before ++ x) new r) (sym (same v.indexes)) v.written;
     small = subst (λ (x : List ℕ). length (joint_of before ++ x) ≤ 20001) (sym (same v.indexes)) v.small;
   }
-  variables_stay Dropped v =
+  variables_stay (prelude.Ok prelude.None) v =
       (on v.indexes v.found ∙ ap (λ (t : Bool). accepted (drop_if t (stays (ground v.indexes)))) v.tooFew, v.same)
-  variables_stay (Refused q) v = (off q v.0, v.1)
+  variables_stay (prelude.Err q) v = (off (number_of q) v.0, v.1)
 
 -- The features one by one.
 module _ (s b l lets : List ℕ) (n : ℕ) where
@@ -125,7 +125,7 @@ module _ (s b l lets : List ℕ) (n : ℕ) where
   comes f = bring_feature c look (feature_in s f)
 
   module _ (before : ℕ) (old : List ℕ) (at : ℕ) (new : List ℕ) where
-    pub iiv-stay : (m : Bool) (ps : Operand) (es : Modes) (r : Stay)
+    pub iiv-stay : (m : Bool) (ps : Operand) (es : Modes) (r : prelude.Result (prelude.Option ℕ) Fault)
         → VariablesAs s b l lets n (bytes "PK") 1 11 m ps VariabilityEffect es true before old at new r
         → StayAs (comes (form.Iiv m ps es)) before old at new r
     unfolding feature_in
@@ -134,7 +134,7 @@ module _ (s b l lets : List ℕ) (n : ℕ) where
         (λ is e. iiv-brings c look m (operand_in s ps) is (modes_in es) e) (λ q e. rw e refl)
         (λ is. iiv-bytes c.parameters m is (whole VariabilityEffect (modes_in es))) before old at new r v
 
-    pub iov-stay : (m : Bool) (ps : Operand) (es : Modes) (r : Stay)
+    pub iov-stay : (m : Bool) (ps : Operand) (es : Modes) (r : prelude.Result (prelude.Option ℕ) Fault)
         → VariablesAs s b l lets n (bytes "IIV") 1 12 m ps VariabilityEffect es true before old at new r
         → StayAs (comes (form.Iov m ps es)) before old at new r
     unfolding feature_in
@@ -143,7 +143,7 @@ module _ (s b l lets : List ℕ) (n : ℕ) where
         (λ is e. iov_brings c look m (operand_in s ps) is (modes_in es) e) (λ q e. rw e refl)
         (λ is. iov_bytes c.parameters m is (whole VariabilityEffect (modes_in es))) before old at new r v
 
-    pub covariance-stay : (m : Bool) (ls : Modes) (ps : Operand) (r : Stay)
+    pub covariance-stay : (m : Bool) (ls : Modes) (ps : Operand) (r : prelude.Result (prelude.Option ℕ) Fault)
         → VariablesAs s b l lets n (bytes "IIV") 2 13 m ps VariabilityLevel ls false before old at new r
         → StayAs (comes (form.Covariance m ls ps)) before old at new r
     unfolding feature_in
@@ -164,19 +164,19 @@ module _ (s b l lets : List ℕ) (n : ℕ) where
   no_place none e = refl
   no_place (some i) e = absurd (false≢true e)
 
-  pub allometry_whole : (v : Name) (r : SomeName)
+  pub allometry_whole : (v : Name) (r : prelude.Option form_name.Name)
       → true ≡ is_some (place_in (same_bytes (name_in s v).spelling) (covariates (handed_context b l)))
       → Whole (comes (form.Allometry v r)) (feature_in s (form.Allometry v r))
   unfolding feature_in
   allometry_whole v r e =
       let p = some_place (place_in (same_bytes (name_in s v).spelling) (covariates c)) e in
-      allometry_stays c look (name_in s v) (some_name_in s r) p.place p.is
+      allometry_stays c look (name_in s v) (some_in (name_in s) r) p.place p.is
 
-  pub allometry_fault : (v : Name) (r : SomeName)
+  pub allometry_fault : (v : Name) (r : prelude.Option form_name.Name)
       → false ≡ is_some (place_in (same_bytes (name_in s v).spelling) (covariates (handed_context b l)))
       → comes (form.Allometry v r) ≡ refused 15 0
   unfolding feature_in
-  allometry_fault v r e = allometry_refused c look (name_in s v) (some_name_in s r) (no_place (place_in (same_bytes (name_in s v).spelling) (covariates c)) e)
+  allometry_fault v r e = allometry_refused c look (name_in s v) (some_in (name_in s) r) (no_place (place_in (same_bytes (name_in s v).spelling) (covariates c)) e)
 
   -- what no arm takes is plain
   abbrev others : List ℕ

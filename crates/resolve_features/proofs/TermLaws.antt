@@ -3,10 +3,10 @@
 use Prim.Native.Nat.{ℕ, ◌+◌, ◌*◌, ◌/◌, ◌%◌, ◌<◌, ◌≤◌}
 use native.Mathlib.Omega.{arith}
 use mathlib.Core.Path.{◌≡◌, refl, ◌∙◌, ap, ap₂, sym}
-use mathlib.Core.Bool.{Bool, true, false, ◌&&◌}
+use mathlib.Core.Bool.{Bool, true, false}
 use mathlib.Core.List.{List, [], ◌∷◌, ◌++◌, map, map-append}
 use mathlib.Core.Option.{Option, some, none}
-use borrow.Author.Tests.{ltb-true, eq-eqb}
+use borrow.Author.Tests.{ltb-true}
 use lib.Dec.{eqb, ltb}
 use lib.ListN.{length, length-map, length-append}
 use Rattle.text.specs.Bytes.{every}
@@ -16,7 +16,7 @@ use Rattle.text.specs.Lists.{gather}
 use Rattle.resolving.specs.Context.{Context, CovariateKind, continuous, categorical, kind_at}
 use Rattle.resolving.specs.Effects.{Effect, operator_number, optional_number, forms_of, form_effects, effects_of}
 use Rattle.resolving_laws.specs.Flat.{Term, term}
-use Rattle.resolve_merging.specs.Packing.{effect_of, term_of}
+use Rattle.resolve_merging.specs.Packing.{term_of}
 use Rattle.resolve_features.specs.Terms.{SmallForms}
 use Rattle.resolve_terms.specs.Terms.{head_number, form_terms, covariate_terms, parameter_terms}
 

@@ -1,11 +1,13 @@
 -- What a feature other than COVARIATE comes to.
+use Rattle.read_forms.specs.declared.Fault.{Fault}
+use Rattle.read_forms.specs.Faults.{number_of}
 use Rattle.std.specs.Prelude.{ℕ, ◌≤◌, ◌<◌, Bool, true, false, cond, List, [], ◌++◌, ◌≡◌, ltb, length, get_or}
 use Rattle.std.proofs.Math.Option.{Option, some, none}
 use Rattle.text.specs.Bytes.{bytes}
 use Rattle.tokens.specs.Spelling.{spell_all}
 use Rattle.labels.specs.declared.Family.{Family}
 use Rattle.labels.specs.Label.{keywords}
-use Rattle.reading.specs.Answer.{Answer, accepted, refused, ◌>>=◌}
+use Rattle.reading.specs.Answer.{Answer, accepted, refused}
 use Rattle.reading.specs.Statement as statement
 use Rattle.reading.specs.Statement.{feature}
 use Rattle.canonical.specs.Canonical.{modes_shapes, statement_shapes}
@@ -22,10 +24,7 @@ use Rattle.resolving.specs.Brought.{Brought, dropped, stays, whole}
 use Rattle.resolving.specs.Handed.{handed_context}
 use Rattle.resolve_operands.specs.Entries.{parameters_in}
 use Rattle.resolve_grounding.specs.Listed.{variable_bytes}
-use Rattle.resolve_features.specs.declared.Alone.{Alone}
-use Rattle.resolve_features.specs.declared.Alone.TheVariants as argument
-use Rattle.resolve_features.specs.declared.Stay.{Stay}
-use Rattle.resolve_features.specs.declared.Stay.TheVariants.{Next, Dropped, Refused}
+use Rattle.std.specs.Prelude as prelude
 
 abbrev pub is_covariate : Feature → Bool
 is_covariate (form.Absorption m) = false
@@ -44,9 +43,9 @@ is_covariate (form.Iov o p e) = false
 is_covariate (form.Covariance o l p) = false
 
 -- a feature of modes alone has these parts; of others nothing is told
-abbrev pub AloneAs : Feature → Alone → Type 0
-AloneAs f (argument.Modes k family m) = (feature_apart f ≡ one k family m) × (k < length keywords)
-AloneAs f argument.Other = Unit {0}
+abbrev pub AloneAs : Feature → prelude.Option (ℕ × Family × Modes) → Type 0
+AloneAs f (prelude.Some a) = (feature_apart f ≡ one a.0 a.1 a.2) × (a.0 < length keywords)
+AloneAs f prelude.None = Unit {0}
 
 -- its bytes, with the modes made whole
 abbrev pub alone_bytes : ℕ → Family → Modes → List ℕ
@@ -67,10 +66,10 @@ pub record Stood (a : Answer Brought) (n : ℕ) (before : List ℕ) (at : ℕ) (
   pub written : Written before at (piece_of n (feature left)) after r
   pub small : length (piece_of n (feature left)) ≤ 20001
 
-unfoldable pub StayAs : Answer Brought → ℕ → List ℕ → ℕ → List ℕ → Stay → Type 0
-StayAs a n before at after (Next r) = Stood a n before at after r
-StayAs a n before at after Dropped = (a ≡ accepted dropped) × (after ≡ before)
-StayAs a n before at after (Refused k) = (a ≡ refused k 0) × (after ≡ before)
+unfoldable pub StayAs : Answer Brought → ℕ → List ℕ → ℕ → List ℕ → prelude.Result (prelude.Option ℕ) Fault → Type 0
+StayAs a n before at after (prelude.Ok (prelude.Some r)) = Stood a n before at after r
+StayAs a n before at after (prelude.Ok prelude.None) = (a ≡ accepted dropped) × (after ≡ before)
+StayAs a n before at after (prelude.Err k) = (a ≡ refused (number_of k) 0) × (after ≡ before)
 
 -- The same for a statement of parameters and modes, by its bytes.
 module _ (s b l lets : List ℕ) (n : ℕ) (star : List ℕ) (least : ℕ) (k : ℕ) (m : Bool) (ps : Operand) (f : Family) (ms : Modes) (named : Bool) where
@@ -88,7 +87,7 @@ module _ (s b l lets : List ℕ) (n : ℕ) (star : List ℕ) (least : ℕ) (k : 
     pub tooFew : ltb (length indexes) least ≡ true
     pub same : new ≡ old
 
-  unfoldable pub VariablesAs : ℕ → List ℕ → ℕ → List ℕ → Stay → Type 0
-  VariablesAs before old at new (Next r) = VariablesStood before old at new r
-  VariablesAs before old at new Dropped = VariablesDropped old new
-  VariablesAs before old at new (Refused q) = (parameters_in s lets n b l star ps ≡ refused q 0) × (new ≡ old)
+  unfoldable pub VariablesAs : ℕ → List ℕ → ℕ → List ℕ → prelude.Result (prelude.Option ℕ) Fault → Type 0
+  VariablesAs before old at new (prelude.Ok (prelude.Some r)) = VariablesStood before old at new r
+  VariablesAs before old at new (prelude.Ok prelude.None) = VariablesDropped old new
+  VariablesAs before old at new (prelude.Err q) = (parameters_in s lets n b l star ps ≡ refused (number_of q) 0) × (new ≡ old)

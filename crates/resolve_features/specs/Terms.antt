@@ -1,4 +1,6 @@
 -- What a COVARIATE comes to: the terms of its effects.
+use Rattle.read_forms.specs.declared.Fault.{Fault}
+use Rattle.read_forms.specs.Faults.{number_of}
 use Rattle.std.specs.Prelude.{ℕ, ◌≤◌, Bool, true, List, map, ◌≡◌, ltb, length}
 use Rattle.text.specs.Bytes.{every}
 use Rattle.reading.specs.Answer.{Answer, accepted, refused}
@@ -8,8 +10,7 @@ use Rattle.resolving.specs.Effects.{Effect}
 use Rattle.resolving.specs.Brought.{Brought, dropped, brings}
 use Rattle.resolving_laws.specs.Flat.{term}
 use Rattle.resolve_merging.specs.Packing.{term_of}
-use Rattle.resolve_features.specs.declared.Stay.{Stay}
-use Rattle.resolve_features.specs.declared.Stay.TheVariants.{Next, Dropped, Refused}
+use Rattle.std.specs.Prelude as prelude
 
 -- forms are places of their family, of which there are seven
 abbrev pub SmallForms : Modes → Type 0
@@ -26,7 +27,7 @@ pub record Termed (a : Answer Brought) (i : ℕ) (before : List ℕ) (at : ℕ) 
   pub written : Written before at numbers after r
   pub few : length numbers ≤ 32768
 
-unfoldable pub CovariateAs : Answer Brought → ℕ → List ℕ → ℕ → List ℕ → Stay → Type 0
-CovariateAs a i before at after (Next r) = Termed a i before at after r
-CovariateAs a i before at after Dropped = (a ≡ accepted dropped) × (after ≡ before)
-CovariateAs a i before at after (Refused k) = (a ≡ refused k 0) × (after ≡ before)
+unfoldable pub CovariateAs : Answer Brought → ℕ → List ℕ → ℕ → List ℕ → prelude.Result (prelude.Option ℕ) Fault → Type 0
+CovariateAs a i before at after (prelude.Ok (prelude.Some r)) = Termed a i before at after r
+CovariateAs a i before at after (prelude.Ok prelude.None) = (a ≡ accepted dropped) × (after ≡ before)
+CovariateAs a i before at after (prelude.Err k) = (a ≡ refused (number_of k) 0) × (after ≡ before)

@@ -29,40 +29,22 @@ ghost use Rattle.resolve_features.specs.Stays.{is_covariate, AloneAs, alone_byte
 ghost use Rattle.resolve_features.specs.Terms.{SmallForms, CovariateAs};
 
 use labels::{Family, Keywords, Labels};
-use read_forms::{CovariateOp, Feature, Modes, Name, Operand, Statement};
-use resolve_context::{Found, Layout};
-use resolve_operands::Entries;
+use read_forms::{CovariateOp, Fault, Feature, Modes, Name, Operand, Statement};
+use resolve_context::Layout;
 use tokens::Classes;
 
-// The fault of an effect against its covariate's kind.
-pub const WRONG_KIND: u8 = 16;
-
-// What a feature comes to: its ground statement or its terms were written, and this is the index behind them; it is dropped; or a fault.
-#[derive(Clone, Copy)]
-pub enum Stay {
-    Next(usize),
-    Dropped,
-    Refused(u8),
-}
-
-// A feature whose one argument is modes, by its keyword's place, their family and the modes; or another.
-#[derive(Clone, Copy)]
-enum Alone {
-    Modes(usize, Family, Modes),
-    Other,
-}
-
-fn alone_of(feature: Feature) -> Alone
+// A feature whose one argument is modes: its keyword's place, their family and the modes.
+fn alone_of(feature: Feature) -> Option<(usize, Family, Modes)>
     ensures { AloneAs feature result }
 {
     match feature {
-        Feature::Absorption(m) => Alone::Modes(0, Family::AbsorptionMode, m),
-        Feature::Elimination(m) => Alone::Modes(1, Family::EliminationMode, m),
-        Feature::Lagtime(m) => Alone::Modes(4, Family::LagtimeMode, m),
-        Feature::DirectEffect(m) => Alone::Modes(7, Family::PdMode, m),
-        Feature::EffectComp(m) => Alone::Modes(8, Family::PdMode, m),
-        Feature::Metabolite(m) => Alone::Modes(10, Family::MetaboliteMode, m),
-        _ => Alone::Other,
+        Feature::Absorption(m) => Some((0, Family::AbsorptionMode, m)),
+        Feature::Elimination(m) => Some((1, Family::EliminationMode, m)),
+        Feature::Lagtime(m) => Some((4, Family::LagtimeMode, m)),
+        Feature::DirectEffect(m) => Some((7, Family::PdMode, m)),
+        Feature::EffectComp(m) => Some((8, Family::PdMode, m)),
+        Feature::Metabolite(m) => Some((10, Family::MetaboliteMode, m)),
+        _ => None,
     }
 }
 
@@ -105,10 +87,10 @@ fn put_whole(
 {
     let next = print_statements::put_joint(before, out, at);
     match alone_of(feature) {
-        Alone::Modes(keyword, family, modes) => {
+        Some((keyword, family, modes)) => {
             put_alone(labels, keys, keyword, family, modes, out, next)
         }
-        Alone::Other => {
+        None => {
             let parts = resolve_grounding::whole_parts(read_parts::parts_of(Statement::Feature(
                 feature,
             )));
@@ -123,18 +105,17 @@ fn is_covariate(text: &[u8], block: &[u8], lists: &[u32], layout: Layout, name: 
     ensures { result ≡ is_some (place_in (same_bytes (name_in text.now name).spelling)
         (covariates·spec (handed_context block.now lists.now))) }
 {
-    match resolve_context::index_of(
+    resolve_context::index_of(
         block,
         lists,
         resolve_context::covariates(layout),
         read_forms::spelling(text, name),
-    ) {
-        Found::Place(_) => true,
-        Found::Nothing => false,
-    }
+    )
+    .is_some()
 }
 
-// A statement of parameters and modes: dropped where the parameters are fewer than `least`.
+// A statement of parameters and modes: the index behind what was written of it; nothing, where it is dropped, since its parameters are fewer than
+// `least`; or a fault.
 fn stay_variables<'a>(
     text: &'a [u8],
     classes: &Classes,
@@ -155,7 +136,7 @@ fn stay_variables<'a>(
     before: usize,
     out: &mut [u8],
     at: usize,
-) -> Stay
+) -> Result<Option<usize>, Fault>
     requires { (classes.now ≡ class_table) × (labels.now ≡ label_table) × (keys.now ≡ keyword_table)
         × (is_handed block.now lists.now ≡ true) × LetsFit text.now lets.now n × OperandFits text.now parameters
         × (keyword < length keywords) × (at ≤ 4294967296) }
@@ -163,19 +144,16 @@ fn stay_variables<'a>(
         keyword optional parameters family modes named before out.old at out.new result }
 {
     let mut list = [0; 64];
-    let count = match resolve_operands::parameters_of(
+    let count = resolve_operands::parameters_of(
         text, classes, block, lists, lets, n, star, parameters, &mut list,
-    ) {
-        Entries::Count(count) => count,
-        Entries::Refused(fault) => return Stay::Refused(fault),
-    };
+    )?;
     if count < least {
-        return Stay::Dropped;
+        return Ok(None);
     }
     let next = print_statements::put_joint(before, out, at);
     let whole = resolve_grounding::whole_modes(family, modes);
     let layout = resolve_context::read_layout(lists);
-    Stay::Next(resolve_grounding::put_variables(
+    Ok(Some(resolve_grounding::put_variables(
         block,
         lists,
         labels,
@@ -189,10 +167,11 @@ fn stay_variables<'a>(
         named,
         out,
         next,
-    ))
+    )))
 }
 
-// What a feature other than COVARIATE comes to, where so many statements stay before it.
+// What a feature other than COVARIATE comes to, where so many statements stay before it: its ground statement was written, and this is the index
+// behind it; it is dropped; or a fault.
 pub fn ground_feature(
     text: &[u8],
     classes: &Classes,
@@ -207,7 +186,7 @@ pub fn ground_feature(
     before: usize,
     out: &mut [u8],
     at: usize,
-) -> Stay
+) -> Result<Option<usize>, Fault>
     requires { (classes.now ≡ class_table) × (labels.now ≡ label_table) × (keys.now ≡ keyword_table) × Stands block.now lists.now layout
         × LetsFit text.now lets.now n × PartsFit text.now (apart (Statement.Feature feature)) × Short text.now feature
         × (is_covariate feature ≡ false) × (at ≤ 4294967296) }
@@ -218,7 +197,7 @@ pub fn ground_feature(
     match feature {
         Feature::Allometry { covariate, .. } => {
             if !is_covariate(text, block, lists, layout, covariate) {
-                return Stay::Refused(resolve_operands::UNKNOWN_NAME);
+                return Err(Fault::UnknownName);
             }
         }
         Feature::Iiv {
@@ -299,7 +278,7 @@ pub fn ground_feature(
         _ => {}
     }
     // Called at one place, so that the compiler makes it part of this function.
-    Stay::Next(put_whole(text, classes, labels, keys, feature, before, out, at))
+    Ok(Some(put_whole(text, classes, labels, keys, feature, before, out, at)))
 }
 
 fn is_named(operand: Operand) -> bool
@@ -315,10 +294,7 @@ fn is_named(operand: Operand) -> bool
 fn mark_of(is: bool) -> u32
     ensures { result ≡ optional_number is }
 {
-    if is {
-        return 1;
-    }
-    0
+    is as u32
 }
 
 fn sign_of(op: CovariateOp) -> u32
@@ -338,7 +314,7 @@ fn head_of(index: usize, explicit: bool, op: CovariateOp, optional: bool) -> u32
     index as u32 * 262144 + mark_of(explicit) * 131072 + sign_of(op) * 2 + mark_of(optional)
 }
 
-// What a COVARIATE brings: its terms were put behind the others; it is dropped; or a fault.
+// What a COVARIATE brings: its terms were put behind the others, and this is the index behind them; it is dropped; or a fault.
 pub fn bring_covariate(
     text: &[u8],
     classes: &Classes,
@@ -355,7 +331,7 @@ pub fn bring_covariate(
     op: CovariateOp,
     terms: &mut [u32],
     at: usize,
-) -> Stay
+) -> Result<Option<usize>, Fault>
     requires { (classes.now ≡ class_table) × Stands block.now lists.now layout × LetsFit text.now lets.now n
         × OperandFits text.now parameters × OperandFits text.now covariates × SmallForms (modes_in effects) × (index < 256) × (at ≤ 4294967296) }
     ensures { CovariateAs (bring_feature (handed_context block.now lists.now)
@@ -364,14 +340,11 @@ pub fn bring_covariate(
         index terms.old at terms.new result }
 {
     let mut first = [0; 64];
-    let own = match resolve_operands::parameters_of(
+    let own = resolve_operands::parameters_of(
         text, classes, block, lists, lets, n, b"PK", parameters, &mut first,
-    ) {
-        Entries::Count(count) => count,
-        Entries::Refused(fault) => return Stay::Refused(fault),
-    };
+    )?;
     let mut second = [0; 64];
-    let others = match resolve_operands::covariates_of(
+    let others = resolve_operands::covariates_of(
         text,
         classes,
         block,
@@ -380,21 +353,18 @@ pub fn bring_covariate(
         n,
         covariates,
         &mut second,
-    ) {
-        Entries::Count(count) => count,
-        Entries::Refused(fault) => return Stay::Refused(fault),
-    };
+    )?;
     if own == 0 {
-        return Stay::Dropped;
+        return Ok(None);
     }
     if others == 0 {
-        return Stay::Dropped;
+        return Ok(None);
     }
     if resolve_terms::any_against(block, lists, layout, &second[..others], effects) {
-        return Stay::Refused(WRONG_KIND);
+        return Err(Fault::WrongKind);
     }
     let head = head_of(index, is_named(parameters), op, optional);
-    Stay::Next(resolve_terms::put_terms(
+    Ok(Some(resolve_terms::put_terms(
         block,
         lists,
         layout,
@@ -404,5 +374,5 @@ pub fn bring_covariate(
         head,
         terms,
         at,
-    ))
+    )))
 }

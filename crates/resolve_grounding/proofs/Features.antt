@@ -1,7 +1,7 @@
 -- What a feature brings, and how its ground statement prints: with its modes made whole, or with names of the context.
 -- Assumes nothing.
 use Prim.Native.Nat.{ℕ, suc}
-use mathlib.Core.Path.{◌≡◌, refl, ◌∙◌, ap, sym}
+use mathlib.Core.Path.{◌≡◌, refl, ◌∙◌, ap}
 use mathlib.Core.Bool.{Bool, true, false, false≢true}
 use mathlib.Core.List.{List, [], ◌∷◌, ◌++◌, append_assoc}
 use mathlib.Core.Option.{Option, some, none}
@@ -12,7 +12,6 @@ use lib.ListN.{length, get_or}
 use Rattle.text.specs.Bytes.{bytes}
 use Rattle.tokens.specs.Token.{Shape}
 use Rattle.tokens.specs.Spelling.{spell_all}
-use Rattle.labels.specs.declared.Family.{Family}
 use Rattle.labels.specs.declared.Family.TheVariants.{VariabilityEffect, VariabilityLevel}
 use Rattle.labels.specs.Label.{keywords}
 use Rattle.reading.specs.Answer.{Answer, accepted, refused}
@@ -40,16 +39,16 @@ use Rattle.reading.specs.Statement.{
   estimated,
   counted,
 }
-use Rattle.canonical.specs.Canonical.{argument_shapes, call_shapes, operand_shapes, modes_shapes, taken_shapes, statement_shapes}
+use Rattle.canonical.specs.Canonical.{call_shapes, operand_shapes, modes_shapes, taken_shapes, statement_shapes}
 use Rattle.text.specs.Lists.{is_nil, place_in, same_bytes}
 use Rattle.resolving.specs.Context.{Context, covariates}
 use Rattle.resolving.specs.Symbols.{Meaning}
 use Rattle.resolving.specs.Operands.{parameters_of}
-use Rattle.resolving.specs.Brought.{Brought, dropped, stays, whole, plain_name, listed, drop_if, bring_feature}
+use Rattle.resolving.specs.Brought.{Brought, stays, whole, plain_name, listed, drop_if, bring_feature}
 use Rattle.print_statements.specs.Bytes.{head_of}
 use Rattle.print_statements.proofs.Bytes.{call_bytes, first-argument}
 use Rattle.resolve_grounding.specs.Whole.{all_whole}
-use Rattle.resolve_grounding.specs.Listed.{either_bytes, variable_bytes}
+use Rattle.resolve_grounding.specs.Listed.{variable_bytes}
 
 -- Features without an operand or a name of the model.
 

@@ -11,7 +11,6 @@ use Rattle.print_parts.specs.Parts.{behind_entry}
 use Rattle.text.specs.Bytes.{bytes}
 use Rattle.tokens.specs.Spelling.{spell_all}
 use Rattle.canonical.specs.Canonical.{name_shape, operand_shapes}
-use Rattle.reading.specs.Statement.{Name}
 use Rattle.print_parts.proofs.Bytes.{entry_first, spell-name, spell-bracketed, bare_one_lem, bare-more}
 use Rattle.resolving.specs.Brought.{plain_name, listed}
 use Rattle.print_writing.specs.Written.{Room, Written}

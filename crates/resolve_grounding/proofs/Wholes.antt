@@ -1,7 +1,7 @@
 -- Parts with their modes made whole.
 -- Assumes nothing.
 use Prim.Native.Nat.{ℕ}
-use mathlib.Core.Path.{◌≡◌, refl, ap, ap₂, ◌∙◌, sym}
+use mathlib.Core.Path.{◌≡◌, refl, ap}
 use mathlib.Core.List.{List, [], ◌∷◌, ◌++◌, map, map-append}
 use denote.Enum.Declared.{tag_of}
 use types.Run.{OneOf, miss}
@@ -15,9 +15,9 @@ use Rattle.resolving.specs.Brought.{whole}
 use Rattle.read_parts.specs.declared.Part.{Part}
 use Rattle.read_parts.specs.declared.Part.TheVariants.{Absent, Modes, Counts, N, Operand, Name, Values, Op, Omitted}
 use Rattle.read_parts.specs.declared.Parts.{Parts}
-use Rattle.read_parts.specs.Meaning.{part_in, parts_in, PartsFit}
+use Rattle.read_parts.specs.Meaning.{part_in, parts_in}
 use Rattle.read_parts.specs.contracts.Part.{the_type}
-use Rattle.resolve_grounding.specs.Whole.{with_whole, all_whole, WholePart, WholeParts}
+use Rattle.resolve_grounding.specs.Whole.{with_whole, WholePart, WholeParts}
 
 pub modes-whole : (f : Family) (m n : form.Modes) → modes_in n ≡ whole f (modes_in m) → WholePart (Modes f m) (Modes f n)
 modes-whole f m n e = record {

@@ -66,17 +66,12 @@ fn whole_part(part: Part) -> Part
 pub fn whole_parts(parts: Parts) -> Parts
     ensures { WholeParts parts result }
 {
-    let first = parts.first;
-    let second = parts.second;
-    let third = parts.third;
-    let fourth = parts.fourth;
     Parts {
-        keyword: parts.keyword,
-        optional: parts.optional,
-        first: whole_part(first),
-        second: whole_part(second),
-        third: whole_part(third),
-        fourth: whole_part(fourth),
+        first: whole_part(parts.first),
+        second: whole_part(parts.second),
+        third: whole_part(parts.third),
+        fourth: whole_part(parts.fourth),
+        ..parts
     }
 }
 
@@ -95,13 +90,11 @@ fn put_names_at(
         (listed_bytes (names_in block.now lists.now names) list.now)
         out.new result }
 {
-    let mut i = 0;
     let mut next = at;
-    while i < list.len() {
-        let name = resolve_context::name_at(block, lists, names, list[i] as usize);
+    for (i, index) in list.iter().enumerate() {
+        let name = resolve_context::name_at(block, lists, names, *index as usize);
         next = print_writing::put_all(out, next, name);
         next = print_parts::put_comma(out, next, list.len() - i);
-        i += 1;
     }
     next
 }

@@ -36,9 +36,8 @@ pub fn put_groups(
         (rest_of before (ground_effects (handed_context block.now lists.now) (map effect_of (take count work.now))))
         out.new result }
 {
-    let mut j = 0;
     let mut next = at;
-    while j < groups {
+    for j in 0..groups {
         let group = listed[2 * j];
         let packed = listed[2 * j + 1];
         next = print_statements::put_joint(before + j, out, next);
@@ -56,7 +55,6 @@ pub fn put_groups(
             out,
             next,
         );
-        j += 1;
     }
     next
 }

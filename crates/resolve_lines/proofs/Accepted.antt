@@ -1,13 +1,14 @@
 -- What Resolve's outputs hold of a text that resolves: as much as it tells, in a context that was checked; and what is written of it.
 -- Assumes nothing.
 use mathlib.Core.Path.{◌≡◌, refl, ◌∙◌, ap, sym, subst}
-use mathlib.Core.Bool.{Bool, true, false, cond, ◌&&◌, ◌||◌}
+use mathlib.Core.Bool.{Bool, true, false, cond, ◌||◌}
 use mathlib.Core.List.{List, [], ◌∷◌, ◌++◌, map}
-use Prim.Native.Nat.{ℕ, suc, ◌+◌, ◌≤◌}
+use Prim.Native.Nat.{ℕ, ◌≤◌}
 use native.Mathlib.Omega.{arith}
 use borrow.Author.Tests.{ltb-false}
 use lib.Dec.{ltb}
 use lib.ListN.{length, take, drop, length-append, length-map}
+use Rattle.std.proofs.lemmas.List.{length-take}
 use Rattle.text.specs.Bytes.{bytes}
 use Rattle.text.proofs.Tests.{or_left, or_right}
 use Rattle.reading.specs.Statement.{Statement}
@@ -40,7 +41,6 @@ use Rattle.lines.specs.Notes.{note_lines}
 use Rattle.lines.specs.Ground.{resolved_lines, ground_lines}
 use Rattle.print_lines.specs.declared.Asked.{Asked}
 use Rattle.print_lines.specs.declared.Asked.TheVariants.{Ground, Effects, Notes}
-use Rattle.print_lines.specs.declared.Sizes.{Sizes}
 use Rattle.print_lines.specs.Given.{effect_in, note_in}
 use Rattle.print_lines.specs.Asked.{asked_as, Bounded, lines_in}
 
@@ -95,10 +95,10 @@ notes-again : (ns : List Note) → map note_in (map note_numbers ns) ≡ ns
 notes-again [] = refl
 notes-again (n ∷ ns) = ap (λ l. n ∷ l) (notes-again ns)
 
-module _ (limit : ℕ) (b l s ground : List ℕ) (effects notes : List (List ℕ)) (lent : Lengths) (w : ℕ) (m : Sizes)
+module _ (limit : ℕ) (b l s ground : List ℕ) (effects notes : List (List ℕ)) (lent : Lengths) (w : ℕ) (m : Lengths)
     (ground' : List ℕ) (effects' notes' : List (List ℕ)) where
   abbrev told : Answer Lengths
-  told = accepted (record { ground = m.ground; effects = m.effects; notes = m.notes })
+  told = accepted m
 
   -- what the call leaves
   pub record Left (a : Answer Resolved) : Type 0 where
@@ -109,7 +109,7 @@ module _ (limit : ℕ) (b l s ground : List ℕ) (effects notes : List (List ℕ
     pub notes-left : notes' ≡ output_of (λ r. map note_numbers r.notes) a notes
 
   module _ (x : Resolved) (e : Left (accepted x)) where
-    lengths : record { ground = m.ground; effects = m.effects; notes = m.notes } ≡ lengths_in x
+    lengths : m ≡ lengths_in x
     lengths = let q : told ≡ accepted (lengths_in x) = e.tells in cc
 
     ground-many : m.ground ≡ length (ground_text x)
@@ -121,7 +121,14 @@ module _ (limit : ℕ) (b l s ground : List ℕ) (effects notes : List (List ℕ
     notes-many : m.notes ≡ length (map note_numbers x.notes)
     notes-many = ap (λ (n : Lengths). n.notes) lengths ∙ sym (length-map x.notes note_numbers)
 
-    bounded : Bounded s b l ground' effects' notes' m
+    there : (m.ground ≤ length ground') × (m.effects ≤ length effects') × (m.notes ≤ length notes')
+    there = (
+      omega (arith, ground-many, ap length e.ground-left, length-append (ground_text x) (drop (length (ground_text x)) ground)),
+      omega (arith, effects-many, ap length e.effects-left, length-append (map effect_numbers x.effects) (drop (length (map effect_numbers x.effects)) effects)),
+      omega (arith, notes-many, ap length e.notes-left, length-append (map note_numbers x.notes) (drop (length (map note_numbers x.notes)) notes)),
+    )
+
+    bounded : Bounded s b l (take m.ground ground') (take m.effects effects') (take m.notes notes')
     bounded =
         let r = handed-accepted limit b l s x (call_accepted limit b l s lent w x e.is) in
         let tg = ltb 16384 (length (ground_text x)) in
@@ -134,18 +141,12 @@ module _ (limit : ℕ) (b l s ground : List ℕ) (effects notes : List (List ℕ
         record {
           handed = r.handed;
           short = r.short;
-          ground-few = omega (arith, ground-many);
-          ground-there =
-              omega (arith, ground-many, ap length e.ground-left, length-append (ground_text x) (drop (length (ground_text x)) ground));
-          effects-few = omega (arith, effects-many, length-map x.effects effect_numbers);
-          effects-there =
-              omega (arith, effects-many, ap length e.effects-left, length-append (map effect_numbers x.effects) (drop (length (map effect_numbers x.effects)) effects));
-          notes-few = omega (arith, notes-many, length-map x.notes note_numbers);
-          notes-there =
-              omega (arith, notes-many, ap length e.notes-left, length-append (map note_numbers x.notes) (drop (length (map note_numbers x.notes)) notes));
+          ground-few = omega (arith, g, ground-many, length-take m.ground ground');
+          effects-few = omega (arith, f, effects-many, length-map x.effects effect_numbers, length-take m.effects effects');
+          notes-few = omega (arith, n, notes-many, length-map x.notes note_numbers, length-take m.notes notes');
         }
 
-    lines_are : (q : Asked) → lines_in q s b l ground' effects' notes' m ≡ resolved_lines (asked_as q) (handed_context b l) s x
+    lines_are : (q : Asked) → lines_in q s b l (take m.ground ground') (take m.effects effects') (take m.notes notes') ≡ resolved_lines (asked_as q) (handed_context b l) s x
     unfolding lines_in resolved_lines
     lines_are Ground =
         ap (λ (g : List ℕ). g ++ bytes "\n")
@@ -159,12 +160,16 @@ module _ (limit : ℕ) (b l s ground : List ℕ) (effects notes : List (List ℕ
         (ap (λ (k : ℕ). take k notes') notes-many ∙ ap (take (length (map note_numbers x.notes))) e.notes-left ∙ take_front (map note_numbers x.notes) _)
         ∙ ap (note_lines s) (notes-again x.notes)
 
-  pub left_bounded : (a : Answer Resolved) → Left a → Bounded s b l ground' effects' notes' m
+  pub left_bounded : (a : Answer Resolved) → Left a → Bounded s b l (take m.ground ground') (take m.effects effects') (take m.notes notes')
   left_bounded (accepted x) e = bounded x e
   left_bounded (refused k p) e = let q : told ≡ refused k p = e.tells in let z : ◌≡◌ {A = ℕ} 0 1 = cc in absurd (omega arith)
 
+  pub left-there : (a : Answer Resolved) → Left a → (m.ground ≤ length ground') × (m.effects ≤ length effects') × (m.notes ≤ length notes')
+  left-there (accepted x) e = there x e
+  left-there (refused k p) e = let q : told ≡ refused k p = e.tells in let z : ◌≡◌ {A = ℕ} 0 1 = cc in absurd (omega arith)
+
   pub left-written : {page done : List ℕ} {r : ℕ} (q : Asked) (a : Answer Resolved) → Left a
-      → Written page 0 (lines_in q s b l ground' effects' notes' m) done r → Written page 0 (ground_lines (asked_as q) (handed_context b l) s a) done r
+      → Written page 0 (lines_in q s b l (take m.ground ground') (take m.effects effects') (take m.notes notes')) done r → Written page 0 (ground_lines (asked_as q) (handed_context b l) s a) done r
   unfolding ground_lines
   left-written {page} {done} {r} q (accepted x) e v = subst (λ (bs : List ℕ). Written page 0 bs done r) (lines_are x e q) v
   left-written q (refused k p) e v = let t : told ≡ refused k p = e.tells in let z : ◌≡◌ {A = ℕ} 0 1 = cc in absurd (omega arith)

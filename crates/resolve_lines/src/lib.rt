@@ -10,7 +10,7 @@ ghost use Rattle.print_writing.specs.Written.{Written};
 ghost use Rattle.lines.specs.Ground.{ground_lines};
 ghost use Rattle.print_lines.specs.Asked.{asked_as};
 
-use print_lines::{Asked, Sizes};
+use print_lines::Asked;
 use resolve_settling::Resolved;
 
 // How many bytes there are to write, and what Resolve answered.
@@ -44,22 +44,24 @@ pub fn resolve_lines(
         notes.old notes.new work.old work.new }
 {
     match resolve_call::resolve_under(text, block, lists, ground, effects, notes, work, limit) {
-        Resolved::Refused(refusal) => ResolvedLines {
+        Err(refusal) => ResolvedLines {
             count: print_lines::put_refused(page, refusal),
-            answer: Resolved::Refused(refusal),
+            answer: Err(refusal),
         },
-        Resolved::Lengths(n) => {
-            let sizes = Sizes {
-                ground: n.ground,
-                effects: n.effects,
-                notes: n.notes,
-            };
+        Ok(n) => {
             let count = print_lines::put_asked(
-                asked, text, block, lists, ground, effects, notes, sizes, page,
+                asked,
+                text,
+                block,
+                lists,
+                &ground[..n.ground],
+                &effects[..n.effects],
+                &notes[..n.notes],
+                page,
             );
             ResolvedLines {
                 count,
-                answer: Resolved::Lengths(n),
+                answer: Ok(n),
             }
         }
     }

@@ -12,8 +12,8 @@ use lib.Seq.{drop-cons}
 use Rattle.text.specs.Lists.{keep, firsts}
 use Rattle.resolving.specs.Effects.{Effect}
 use Rattle.resolving.specs.Ground.{Group, group_of, same_group, groups, forms_in}
-use Rattle.resolve_merging.specs.declared.Step.TheVariants as steps
-use Rattle.resolve_merging.specs.declared.Grouped.TheVariants as grouped
+use Rattle.resolve_merging.specs.Steps as steps
+use Rattle.std.specs.Prelude as prelude
 use Rattle.resolve_merging.specs.Packing.{effect_of, group_number, group_as}
 use Rattle.resolve_merging.specs.Runs.{groups_in, forms_of}
 use Rattle.resolve_merging.specs.Tables.{Tallied}
@@ -119,7 +119,7 @@ module _ {a b c : List ℕ} {m k : ℕ} (few : m ≤ 2048) (t : Tallied (step_of
   pub listed_plain : Plain (take m a) → Plain (take m c)
   listed_plain p = subst Plain (sym same-run) p
 
-  pub many-groups : 256 < k → Groups m a c grouped.Many
+  pub many-groups : 256 < k → Groups m a c prelude.None
   many-groups h = record {
     kept = kept_on t.kept v.kept;
     effects = same-run;
@@ -133,7 +133,7 @@ module _ {a b c : List ℕ} {m k : ℕ} (few : m ≤ 2048) (t : Tallied (step_of
       subst (λ (l : List ℕ). GroupNumbers (groups_in l) c k) (sym (take_front b c m few v.terms))
       (subst (λ (s : Bool). listed_as s (groups_in (take m b)) c k) (le-leb k 256 h) v.answer)
 
-  pub all-groups : {d : List ℕ} → k ≤ 256 → Formed m k c d → Groups m a d (grouped.Groups k)
+  pub all-groups : {d : List ℕ} → k ≤ 256 → Formed m k c d → Groups m a d (prelude.Some k)
   all-groups {d} h f =
       let ns = listed-numbers h in
       record {

@@ -12,8 +12,8 @@ use Rattle.resolving.specs.Merging.{same_pair, same_form, is_mandatory}
 use Rattle.resolving_laws.specs.Flat.{Term}
 use Rattle.text.proofs.Bools.{and_sym}
 use Rattle.text.proofs.Appended.{map-append, firsts-one_more}
-use Rattle.resolve_merging.specs.declared.Step.TheVariants as steps
-use Rattle.resolve_merging.specs.declared.Pass.TheVariants as passes
+use Rattle.resolve_merging.specs.Steps as steps
+use Rattle.resolve_merging.specs.Sieves as passes
 use Rattle.resolve_merging.specs.Packing.{effect_of, term_of, bare, pair_of}
 use Rattle.resolve_merging.specs.Flags.{flagged, with_flag}
 use Rattle.resolve_merging.specs.Runs.{overridden_in, remaining_in, also_mandatory_in}

@@ -3,12 +3,18 @@
 use Prim.Native.Nat.{ℕ, ◌+◌, ◌≤◌, ◌<◌}
 use native.Mathlib.Numerals.{add-one}
 use native.Mathlib.Omega.{arith}
-use mathlib.Core.Path.{◌≡◌, sym, ◌∙◌, ap}
+use mathlib.Core.Path.{◌≡◌, refl, sym, ◌∙◌, ap}
 use mathlib.Core.Bool.{Bool, false, ◌||◌}
 use mathlib.Core.List.{List, [], ◌∷◌}
 use lib.ListN.{length, take, get_or, length-take, drop_of_length-le}
 use lib.Seq.{slice, slice-cons}
+use Rattle.std.specs.List.{list_any}
 use Rattle.text.specs.Lists.{any}
+
+-- the library's word for the same
+pub any-list_any : {A : Type 0} (p : A → Bool) (l : List A) → any p l ≡ list_any p l
+any-list_any p [] = refl
+any-list_any p (x ∷ l) = ap (λ (t : Bool). p x || t) (any-list_any p l)
 
 pub slice_next : (l : List ℕ) (k to : ℕ) → k < to → to ≤ length l → slice k to l ≡ get_or l k 0 ∷ slice (k + 1) to l
 slice_next l k to h g = slice-cons k to l 0 h g ∙ ap (λ (j : ℕ). get_or l k 0 ∷ slice j to l) (sym (add-one k))

@@ -19,11 +19,9 @@ use Rattle.resolving_laws.specs.Flat.{terms_from}
 use Rattle.text.proofs.All.{All, finished, also, neither-one, all_of, all_map, all_firsts}
 use Rattle.text.proofs.Clashing.{clashes}
 use Rattle.text.proofs.Once.{firsts-once}
-use Rattle.resolve_merging.specs.declared.Found.{Found}
-use Rattle.resolve_merging.specs.declared.Found.TheVariants as found
-use Rattle.resolve_merging.specs.declared.Outcome.TheVariants as outcomes
-use Rattle.resolve_merging.specs.declared.Step.TheVariants as steps
-use Rattle.resolve_merging.specs.declared.Pass.TheVariants as passes
+use Rattle.std.specs.Prelude as prelude
+use Rattle.resolve_merging.specs.Steps as steps
+use Rattle.resolve_merging.specs.Sieves as passes
 use Rattle.resolve_merging.specs.Packing.{effect_of, term_of, bare}
 use Rattle.resolve_merging.specs.Runs.{remaining_in, forced_in, also_mandatory_in, united_in}
 use Rattle.resolve_merging.specs.Tables.{entry, tally, zeros, Agree, Tallied, Anew}
@@ -76,7 +74,7 @@ ready_cleared {a} {b} {n} few t =
     subst (λ (l : List ℕ). Agree l (entry b) zeros) (sym (take_front a b n few t.terms)) (cleared_table t)
 
 pub looked_cleared :
-    {a b c : List ℕ} {n : ℕ} {f : Found} → n ≤ 2048 → Tallied (step_of steps.Clear) (take n a) a b → Looked (take n b) b c f
+    {a b c : List ℕ} {n : ℕ} {f : prelude.Option ℕ} → n ≤ 2048 → Tallied (step_of steps.Clear) (take n a) a b → Looked (take n b) b c f
     → Looked (take n a) a c f
 looked_cleared {a} {b} {n = n} few t v = record {
   kept = kept_on t.kept v.kept;
@@ -107,19 +105,19 @@ united_plain l =
     }
 
 -- The answer, from what remains and what is found or merged.
-module _ {a b c : List ℕ} {n left : ℕ} {f : Found}
+module _ {a b c : List ℕ} {n left : ℕ} {f : prelude.Option ℕ}
     (few : n ≤ 2048) (v : Left (remaining_in (take n a)) n a b left) (w : Looked (take left b) b c f) where
   finding : (bs : List Brought) → map term_of (take n a) ≡ terms_from 0 bs → found_as f ≡ forced_again bs
   finding bs run = w.answer ∙ ap forced_in v.numbers ∙ forced_means (take n a) bs run
 
-  pub forced_settles : (s : ℕ) → f ≡ found.Forced s → Settles n a c (outcomes.Refused s)
+  pub forced_settles : (s : ℕ) → f ≡ prelude.Some s → Settles n a c (prelude.Err (record { statement = s }))
   forced_settles s g = record {
     kept = kept_on v.kept w.kept;
     plain = tt;
     answer = λ bs run. ap (λ (o : Option ℕ). at_most_once forced_twice o (accepted (merged bs))) (sym (ap found_as g) ∙ finding bs run);
   }
 
-  pub merged_settles : {d : List ℕ} {m : ℕ} → f ≡ found.Nothing → Left (united_in (take left c)) left c d m → Settles n a d (outcomes.Effects m)
+  pub merged_settles : {d : List ℕ} {m : ℕ} → f ≡ prelude.None → Left (united_in (take left c)) left c d m → Settles n a d (prelude.Ok m)
   merged_settles {d} {m} g u =
       let e : take m d ≡ united_in (remaining_in (take n a)) =
       u.numbers ∙ ap united_in (take_front b c left (omega (arith, v.few)) w.terms ∙ v.numbers) in

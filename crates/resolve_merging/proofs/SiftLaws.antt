@@ -10,7 +10,7 @@ use lib.Dec.{eqb}
 use lib.ListN.{length, take, get_or, set, length-set}
 use lib.Seq.{get_or-set_other, take-set-le, take-suc-set}
 use Rattle.text.specs.Lists.{keep}
-use Rattle.resolve_merging.specs.declared.Pass.{Pass}
+use Rattle.resolve_merging.specs.Sieves.{Pass}
 use Rattle.resolve_merging.specs.Packing.{pair_of}
 use Rattle.resolve_merging.specs.Tables.{place, entry, updated, tally, Agree}
 use Rattle.resolve_merging.specs.Passes.{gone_by, entered_by, shown_by, stay_by, Sifted, entered_at, Moved}

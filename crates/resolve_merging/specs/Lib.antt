@@ -2,6 +2,8 @@ pub mod Packing
 pub mod Flags
 pub mod Runs
 pub mod Tables
+pub mod Steps
+pub mod Sieves
 pub mod Passes
 pub mod Outcomes
 pub mod Grouping

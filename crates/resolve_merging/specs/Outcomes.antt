@@ -10,10 +10,8 @@ use Rattle.resolving.specs.Merging.{forced_again, merged}
 use Rattle.resolving.specs.Ground.{groups, forms_in}
 use Rattle.resolving.specs.Resolve.{at_most_once}
 use Rattle.resolving_laws.specs.Flat.{terms_from}
-use Rattle.resolve_merging.specs.declared.Outcome.{Outcome}
-use Rattle.resolve_merging.specs.declared.Outcome.TheVariants as outcomes
-use Rattle.resolve_merging.specs.declared.Grouped.{Grouped}
-use Rattle.resolve_merging.specs.declared.Grouped.TheVariants as grouped
+use Rattle.resolve_merging.specs.declared.ForcedAgain.{ForcedAgain}
+use Rattle.std.specs.Prelude as prelude
 use Rattle.resolve_merging.specs.Packing.{effect_of, term_of, bare, group_as}
 use Rattle.resolve_merging.specs.Tables.{Kept}
 
@@ -23,16 +21,16 @@ pub record Plain (l : List ℕ) : Type 0 where
   pub once : none_twice l ≡ true
 
 -- the statement that forces a pair again, or the merged effects, which stand from 0 on
-abbrev pub outcome_as : List ℕ → Outcome → Answer (List Effect)
-outcome_as work (outcomes.Refused s) = refused forced_twice s
-outcome_as work (outcomes.Effects m) = accepted (map effect_of (take m work))
+abbrev pub outcome_as : List ℕ → prelude.Result ℕ ForcedAgain → Answer (List Effect)
+outcome_as work (prelude.Err e) = refused forced_twice e.statement
+outcome_as work (prelude.Ok m) = accepted (map effect_of (take m work))
 
-abbrev pub PlainTo : ℕ → List ℕ → Outcome → Type 0
-PlainTo n work (outcomes.Refused s) = Unit {0}
-PlainTo n work (outcomes.Effects m) = (m ≤ n) × Plain (take m work)
+abbrev pub PlainTo : ℕ → List ℕ → prelude.Result ℕ ForcedAgain → Type 0
+PlainTo n work (prelude.Err e) = Unit {0}
+PlainTo n work (prelude.Ok m) = (m ≤ n) × Plain (take m work)
 
 -- as document 01 has it, for a run of the terms that the statements bring
-pub record Settles (n : ℕ) (before after : List ℕ) (r : Outcome) : Type 0 where
+pub record Settles (n : ℕ) (before after : List ℕ) (r : prelude.Result ℕ ForcedAgain) : Type 0 where
   pub kept : Kept before after
   pub plain : PlainTo n after r
   pub answer :
@@ -56,12 +54,12 @@ pub record GroupsStand (es : List Effect) (work : List ℕ) (k : ℕ) : Type 0 w
   pub few : k ≤ 256
   pub each : (j : ℕ) → j < k → GroupStands es work j
 
-abbrev pub GroupedAs : List Effect → List ℕ → Grouped → Type 0
-GroupedAs es work (grouped.Groups k) = GroupsStand es work k
-GroupedAs es work grouped.Many = 256 < length (groups es)
+abbrev pub GroupedAs : List Effect → List ℕ → prelude.Option ℕ → Type 0
+GroupedAs es work (prelude.Some k) = GroupsStand es work k
+GroupedAs es work prelude.None = 256 < length (groups es)
 
 -- The groups of the first so many effects, which stand as they did.
-pub record Groups (m : ℕ) (before after : List ℕ) (r : Grouped) : Type 0 where
+pub record Groups (m : ℕ) (before after : List ℕ) (r : prelude.Option ℕ) : Type 0 where
   pub kept : Kept before after
   pub effects : take m after ≡ take m before
   pub answer : GroupedAs (map effect_of (take m before)) after r

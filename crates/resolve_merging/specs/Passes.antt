@@ -1,12 +1,11 @@
 -- What a pass over the terms does at one of them: to its pair's number, and to the term.
 use Rattle.std.specs.Prelude.{ℕ, ◌+◌, ◌-◌, ◌/◌, ◌%◌, ◌≤◌, ◌<◌, Bool, cond, not, ◌&&◌, List, [], ◌∷◌, ◌++◌, ◌≡◌, eqb, leb, take, get_or, set}
 use Rattle.std.proofs.Math.Option.{Option, some, none}
-use Rattle.resolve_merging.specs.declared.Step.{Step}
-use Rattle.resolve_merging.specs.declared.Step.TheVariants as steps
-use Rattle.resolve_merging.specs.declared.Pass.{Pass}
-use Rattle.resolve_merging.specs.declared.Pass.TheVariants as passes
-use Rattle.resolve_merging.specs.declared.Found.{Found}
-use Rattle.resolve_merging.specs.declared.Found.TheVariants as found
+use Rattle.resolve_merging.specs.Steps.{Step}
+use Rattle.resolve_merging.specs.Steps as steps
+use Rattle.resolve_merging.specs.Sieves.{Pass}
+use Rattle.resolve_merging.specs.Sieves as passes
+use Rattle.std.specs.Prelude as prelude
 use Rattle.resolve_merging.specs.Packing.{bare, pair_of}
 use Rattle.resolve_merging.specs.Flags.{flagged, with_flag}
 use Rattle.resolve_merging.specs.Runs.{forced_in}
@@ -26,14 +25,14 @@ forcing w v = cond (eqb (w % 2) 0) (w / 262144 + 1) v
 abbrev pub forced_by : ℕ → ℕ → Bool
 forced_by w v = eqb (w % 2) 0 && (not (eqb v 0) && leb v (w / 262144))
 
-abbrev pub found_as : Found → Option ℕ
-found_as (found.Forced s) = some s
-found_as found.Nothing = none
+abbrev pub found_as : prelude.Option ℕ → Option ℕ
+found_as (prelude.Some s) = some s
+found_as prelude.None = none
 
 -- the other way, for a crate that finds it in another way
-abbrev pub found_of : Option ℕ → Found
-found_of (some s) = found.Forced s
-found_of none = found.Nothing
+abbrev pub found_of : Option ℕ → prelude.Option ℕ
+found_of (some s) = prelude.Some s
+found_of none = prelude.None
 
 -- Whether a term goes, by its pair's number; that number after it; and the term as it stays.
 abbrev pub gone_by : Pass → ℕ → ℕ → Bool
@@ -87,7 +86,7 @@ pub record Left (run : List ℕ) (n : ℕ) (before after : List ℕ) (r : ℕ) :
   pub numbers : take r after ≡ run
 
 -- A run was looked through for a pair that is forced again, and stands as it did.
-pub record Looked (run before after : List ℕ) (r : Found) : Type 0 where
+pub record Looked (run before after : List ℕ) (r : prelude.Option ℕ) : Type 0 where
   pub kept : Kept before after
   pub terms : take 2048 after ≡ take 2048 before
   pub answer : found_as r ≡ forced_in run

@@ -9,18 +9,16 @@ use mathlib.Core.Option.{some, none}
 use lib.Dec.{eqb}
 use lib.ListN.{take}
 use Rattle.text.specs.Lists.{any, firsts}
-use Rattle.resolve_merging.specs.declared.Outcome.TheVariants as outcomes
+use Rattle.std.specs.Prelude as prelude
 use Rattle.resolve_merging.specs.Packing.{bare}
 use Rattle.resolve_merging.specs.Runs.{remaining_in, forced_in, united_in}
-use Rattle.resolve_merging.specs.Passes.{found_of, Left}
+use Rattle.resolve_merging.specs.Passes.{found_as, found_of, Left}
 use Rattle.resolve_merging.specs.Outcomes.{Settles}
 use Rattle.resolve_merging.proofs.TableLaws.{kept_self, kept_on}
 use Rattle.resolve_merging.proofs.Settling.{forced_settles, merged_settles}
-use Rattle.resolve_merging_few.specs.declared.Pass.TheVariants as passes
-use Rattle.resolve_merging_few.specs.declared.Sought.TheVariants as sought
-use Rattle.resolve_merging_few.specs.declared.Found.{Found}
-use Rattle.resolve_merging_few.specs.declared.Found.TheVariants as found
-use Rattle.resolve_merging_few.specs.Scans.{passes_by, found_as}
+use Rattle.resolve_merging_few.specs.Sieves as passes
+use Rattle.resolve_merging_few.specs.Sought as sought
+use Rattle.resolve_merging_few.specs.Scans.{passes_by}
 use Rattle.resolve_merging_few.specs.Passes.{stay_by, twins_gone}
 use Rattle.resolve_merging_few.proofs.Staying.{overridden_gone, none-explicit, twins_gone_lem, none-mandatory}
 
@@ -56,9 +54,9 @@ unite_left v w = record {
 }
 
 -- The answer, from what remains and what is found or merged.
-module _ {a b : List ℕ} {n left : ℕ} {f : Found}
+module _ {a b : List ℕ} {n left : ℕ} {f : prelude.Option ℕ}
     (few : n ≤ 64) (v : Left (remaining_in (take n a)) n a b left) (w : found_as f ≡ forced_in (take left b)) where
-  pub few_forced : (s : ℕ) → f ≡ found.Forced s → Settles n a b (outcomes.Refused s)
+  pub few_forced : (s : ℕ) → f ≡ prelude.Some s → Settles n a b (prelude.Err (record { statement = s }))
   few_forced s g =
       forced_settles {f = found_of (some s)} (omega arith) v
       record { kept = kept_self b; terms = refl; answer = sym (ap found_as g) ∙ w }
@@ -66,9 +64,9 @@ module _ {a b : List ℕ} {n left : ℕ} {f : Found}
       refl
 
   pub few-merged :
-      {d d' : List ℕ} {k m : ℕ} → f ≡ found.Nothing → Left (twins_gone (take left b)) left b d k
+      {d d' : List ℕ} {k m : ℕ} → f ≡ prelude.None → Left (twins_gone (take left b)) left b d k
       → Left (firsts eqb (map bare (take k d))) k d d' m
-      → Settles n a d' (outcomes.Effects m)
+      → Settles n a d' (prelude.Ok m)
   few-merged g t u =
       merged_settles {f = found_of none} (omega arith) v
       record { kept = kept_self b; terms = refl; answer = sym (ap found_as g) ∙ w }

@@ -12,7 +12,7 @@ use Rattle.resolve_merging.specs.Tables.{Kept}
 use Rattle.resolve_merging.specs.Passes.{Left}
 use Rattle.resolve_merging.proofs.Scans.{slice_next, slice_past}
 use Rattle.resolve_merging.proofs.TableLaws.{kept_self, kept_on, kept_set}
-use Rattle.resolve_merging_few.specs.declared.Pass.{Pass}
+use Rattle.resolve_merging_few.specs.Sieves.{Pass}
 use Rattle.resolve_merging_few.specs.Passes.{gone_by, stay_by, gone_at, Moved}
 
 -- The loop: those that stay so far are the first, and with what stays of the others they are what stays of all.

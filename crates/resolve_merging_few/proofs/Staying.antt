@@ -17,9 +17,9 @@ use Rattle.resolve_merging.specs.Packing.{effect_of, term_of, bare, pair_of}
 use Rattle.resolve_merging.specs.Runs.{overridden_in, remaining_in, also_mandatory_in}
 use Rattle.resolve_merging.proofs.Mapped.{append-none, any-map}
 use Rattle.resolve_merging.proofs.Fields.{both_eqb, pair_eqb, mandatory_eqb}
-use Rattle.resolve_merging_few.specs.declared.Pass.{Pass}
-use Rattle.resolve_merging_few.specs.declared.Pass.TheVariants as passes
-use Rattle.resolve_merging_few.specs.declared.Sought.TheVariants as sought
+use Rattle.resolve_merging_few.specs.Sieves.{Pass}
+use Rattle.resolve_merging_few.specs.Sieves as passes
+use Rattle.resolve_merging_few.specs.Sought as sought
 use Rattle.resolve_merging_few.specs.Scans.{passes_by}
 use Rattle.resolve_merging_few.specs.Passes.{among, gone_by, stay_by, twins_gone}
 

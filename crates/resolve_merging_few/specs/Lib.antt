@@ -1,3 +1,5 @@
+pub mod Sought
+pub mod Sieves
 pub mod Scans
 pub mod Passes
 pub mod Listing

@@ -1,5 +1,5 @@
 -- Groups in a run of their own, two numbers each: the group's and its forms.
-use Rattle.std.specs.Prelude.{ℕ, ◌+◌, ◌*◌, ◌≤◌, ◌<◌, Bool, true, false, cond, List, ◌≡◌, ltb, get_or, set}
+use Rattle.std.specs.Prelude.{ℕ, ◌+◌, ◌*◌, ◌≤◌, ◌<◌, Bool, true, false, cond, List, ◌≡◌, ltb, get_or, set, Option, Some, None}
 use Rattle.text.specs.Bytes.{member_of}
 use Rattle.text.specs.Lists.{all}
 use Rattle.reading_laws.specs.WellFormed.{none_twice}
@@ -18,6 +18,10 @@ pub record IndexFound (listed : List ℕ) (k g r : ℕ) : Type 0 where
   pub few : r ≤ k
   pub before : (j : ℕ) → j < r → group_in listed j ≡ g → ⊥
   pub there : r < k → group_in listed r ≡ g
+
+abbrev pub IndexFoundAs : List ℕ → ℕ → ℕ → Option ℕ → Type 0
+IndexFoundAs listed k g (Some j) = (j < k) × IndexFound listed k g j
+IndexFoundAs listed k g None = IndexFound listed k g k
 
 -- the forms of a group in one number: each is below 8, and none stands twice
 pub record Formed (forms : ℕ) : Type 0 where

@@ -4,10 +4,10 @@ use Rattle.std.proofs.Math.Seq.{slice}
 use Rattle.text.specs.Lists.{any, keep}
 use Rattle.resolve_merging.specs.Packing.{bare, pair_of}
 use Rattle.resolve_merging.specs.Runs.{also_mandatory_in}
-use Rattle.resolve_merging_few.specs.declared.Sought.{Sought}
-use Rattle.resolve_merging_few.specs.declared.Sought.TheVariants as sought
-use Rattle.resolve_merging_few.specs.declared.Pass.{Pass}
-use Rattle.resolve_merging_few.specs.declared.Pass.TheVariants as passes
+use Rattle.resolve_merging_few.specs.Sought.{Sought}
+use Rattle.resolve_merging_few.specs.Sought as sought
+use Rattle.resolve_merging_few.specs.Sieves.{Pass}
+use Rattle.resolve_merging_few.specs.Sieves as passes
 use Rattle.resolve_merging_few.specs.Scans.{passes_by}
 
 abbrev pub among : List ℕ → List ℕ → Sought → Bool

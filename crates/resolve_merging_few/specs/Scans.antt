@@ -1,12 +1,9 @@
 -- What a scan looks for, and whether a term forces a pair again.
 use Rattle.std.specs.Prelude.{ℕ, ◌/◌, ◌%◌, Bool, ◌&&◌, List, eqb, ltb}
-use Rattle.std.proofs.Math.Option.{Option, some, none}
 use Rattle.text.specs.Lists.{any}
 use Rattle.resolve_merging.specs.Packing.{bare, pair_of}
-use Rattle.resolve_merging_few.specs.declared.Sought.{Sought}
-use Rattle.resolve_merging_few.specs.declared.Sought.TheVariants as sought
-use Rattle.resolve_merging_few.specs.declared.Found.{Found}
-use Rattle.resolve_merging_few.specs.declared.Found.TheVariants as found
+use Rattle.resolve_merging_few.specs.Sought.{Sought}
+use Rattle.resolve_merging_few.specs.Sought as sought
 
 -- the mark of an explicit term stands before its pair, so a pair's number and 4,096 is what an explicit term of it has there
 abbrev pub passes_by : Sought → ℕ → Bool
@@ -19,7 +16,3 @@ passes_by (sought.ForcesBefore w) u = ltb (u / 262144) (w / 262144) && (eqb (u %
 -- whether a term forces its pair, which one of these forces that is of an earlier statement
 abbrev pub forced_at : List ℕ → ℕ → Bool
 forced_at seen w = eqb (w % 2) 0 && any (passes_by (sought.ForcesBefore w)) seen
-
-abbrev pub found_as : Found → Option ℕ
-found_as (found.Forced s) = some s
-found_as found.Nothing = none

@@ -20,8 +20,8 @@ use Rattle.resolve_context.specs.Lists.{names_in, Sound, Stands, covariates_of}
 use Rattle.resolve_context.proofs.Meaning.{parameters_sound, covariates_sound, parameters-are, covariates-are}
 use Rattle.resolve_symbols.specs.declared.Source.TheVariants.{Values, Given}
 use Rattle.resolve_symbols.specs.declared.Listing.TheVariants.{Covariates}
-use Rattle.resolve_symbols.specs.declared.Looked.{Looked}
-use Rattle.resolve_symbols.specs.declared.Looked.TheVariants.{Names}
+use Rattle.resolve_symbols.specs.declared.Source.{Source}
+use Rattle.std.specs.Prelude as prelude
 use Rattle.resolve_symbols.specs.Sources.{looked_as, Means}
 use Rattle.resolve_symbols.proofs.Sources.{stands-marked}
 use Rattle.resolve_operands.specs.Entries.{target_of, meaning_in, StandsFor, operand_names, parameters_in, covariates_in}
@@ -30,7 +30,7 @@ use Rattle.resolve_operands.specs.Entries.{target_of, meaning_in, StandsFor, ope
 module _ (s l : List ℕ) (n : ℕ) (y : Layout) where
   -- `*`: its word is looked up, or it is every covariate
   module _ (star : List ℕ) (every : Bool) where
-    pub star-stands : (w : List ℕ) (r : Looked)
+    pub star-stands : (w : List ℕ) (r : prelude.Option Source)
         → every ≡ false
         → w ≡ star
         → Means s y r (λ c. meaning_in s l n c w)
@@ -38,12 +38,12 @@ module _ (s l : List ℕ) (n : ℕ) (y : Layout) where
     unfolding operand_in
     star-stands w r e q h c m = ap known (h c m ∙ ap (meaning_in s l n c) q) ∙ rw e
 
-    pub every-stands : every ≡ true → StandsFor s y (Names (Given Covariates)) (operand_names s l n star every operand.Wildcard)
+    pub every-stands : every ≡ true → StandsFor s y (prelude.Some (Given Covariates)) (operand_names s l n star every operand.Wildcard)
     unfolding operand_in
     every-stands e c m = rw e
 
   -- the symbol's word as it was spelled
-  pub word_stands : (star : Context → Answer (List (List ℕ))) (x : Name) (w : List ℕ) (r : Looked)
+  pub word_stands : (star : Context → Answer (List (List ℕ))) (x : Name) (w : List ℕ) (r : prelude.Option Source)
       → w ≡ (name_in s x).spelling
       → Means s y r (λ c. meaning_in s l n c w)
       → StandsFor s y r (λ c. names_of (meaning_in s l n c) (star c) (operand_in s (operand.Symbol x)))
@@ -51,7 +51,7 @@ module _ (s l : List ℕ) (n : ℕ) (y : Layout) where
   word_stands star x w r e h c m = ap known (h c m ∙ ap (meaning_in s l n c) e)
 
   pub names_stand : (star : Context → Answer (List (List ℕ))) (is : Items)
-      → StandsFor s y (Names (Values is)) (λ c. names_of (meaning_in s l n c) (star c) (operand_in s (operand.Names is)))
+      → StandsFor s y (prelude.Some (Values is)) (λ c. names_of (meaning_in s l n c) (star c) (operand_in s (operand.Names is)))
   unfolding operand_in
   names_stand star is c m = ap accepted (spellings-twice (items_in s is))
     where
@@ -61,7 +61,7 @@ module _ (s l : List ℕ) (n : ℕ) (y : Layout) where
       spellings-twice (x ∷ xs) = ap (λ (ws : List (List ℕ)). x.name.spelling ∷ ws) (spellings-twice xs)
 
 -- what stands for an operand stands for one that is equal to it
-pub stands_same : (s : List ℕ) (y : Layout) (r : Looked) (f : Operand → Context → Answer (List (List ℕ))) {o p : Operand}
+pub stands_same : (s : List ℕ) (y : Layout) (r : prelude.Option Source) (f : Operand → Context → Answer (List (List ℕ))) {o p : Operand}
     → p ≡ o
     → StandsFor s y r (f o)
     → StandsFor s y r (f p)
@@ -75,7 +75,7 @@ module _ (b r : List ℕ) (y : Layout) (st : Stands b r y) where
 
   -- what is looked up, held to that list
   pub operand_held :
-      (s l : List ℕ) (n : ℕ) (star : List ℕ) (every : Bool) (o : Operand) (k : Looked)
+      (s l : List ℕ) (n : ℕ) (star : List ℕ) (every : Bool) (o : Operand) (k : prelude.Option Source)
       → StandsFor s y k (operand_names s l n star every o)
       → held (names_in b r (target_of y every)) (known (looked_as (handed_context b r) s k))
       ≡ cond every (covariates_in s l n b r o) (parameters_in s l n b r star o)

@@ -1,4 +1,5 @@
 -- What an operand answers: the indexes of its names, or 14 or 15.
+use Rattle.std.specs.Prelude as prelude
 use Rattle.std.specs.Prelude.{ℕ, ◌≡◌, Bool, cond, List, map}
 use Rattle.std.proofs.Math.Option.{some}
 use Rattle.reading.specs.Answer.{Answer, accepted, refused}
@@ -7,21 +8,21 @@ use Rattle.resolving.specs.Symbols.{Meaning, look_up}
 use Rattle.resolving.specs.Operands.{known, names_of, parameters_of, covariates_of}
 use Rattle.resolving.specs.Handed.{handed_context}
 use Rattle.read_forms.specs.declared.Operand.{Operand}
+use Rattle.read_forms.specs.declared.Fault.{Fault}
+use Rattle.read_forms.specs.Faults.{number_of}
 use Rattle.read_forms.specs.Forms.{operand_in}
 use Rattle.resolve_context.specs.declared.Names.{Names}
 use Rattle.resolve_context.specs.declared.Layout.{Layout}
 use Rattle.resolve_context.specs.Lists as layout
-use Rattle.resolve_symbols.specs.declared.Looked.{Looked}
+use Rattle.resolve_symbols.specs.declared.Source.{Source}
 use Rattle.resolve_symbols.specs.Lets.{definitions_in}
 use Rattle.resolve_symbols.specs.Sources.{looked_as, Marked}
-use Rattle.resolve_operands.specs.declared.Entries.{Entries}
-use Rattle.resolve_operands.specs.declared.Entries.TheVariants.{Count, Refused}
 use Rattle.resolve_operands.specs.Picked.{Picked}
 
 -- an answer as it is given, with the array that was lent for the indexes of a list with n entries
-abbrev pub EntriesAs : ℕ → Answer (List ℕ) → List ℕ → Entries → Type 0
-EntriesAs n a is (Count k) = Picked n a is k
-EntriesAs n a is (Refused f) = a ≡ refused f 0
+abbrev pub EntriesAs : ℕ → Answer (List ℕ) → List ℕ → prelude.Result ℕ Fault → Type 0
+EntriesAs n a is (prelude.Ok k) = Picked n a is k
+EntriesAs n a is (prelude.Err f) = a ≡ refused (number_of f) 0
 
 -- the list that names are held to: that of covariates, or the parameters
 abbrev pub target_of : Layout → Bool → Names
@@ -32,7 +33,7 @@ abbrev pub meaning_in : List ℕ → List ℕ → ℕ → Context → Meaning
 meaning_in s l n c = look_up c (map some (definitions_in s l n))
 
 -- in every context with the layout's marks, what was looked up has these names
-abbrev pub StandsFor : List ℕ → Layout → Looked → (Context → Answer (List (List ℕ))) → Type 0
+abbrev pub StandsFor : List ℕ → Layout → prelude.Option Source → (Context → Answer (List (List ℕ))) → Type 0
 StandsFor s y r f = (c : Context) → Marked c y → known (looked_as c s r) ≡ f c
 
 module _ (s l : List ℕ) (n : ℕ) where

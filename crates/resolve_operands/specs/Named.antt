@@ -11,8 +11,9 @@ use Rattle.resolve_symbols.specs.declared.Source.{Source}
 use Rattle.resolve_symbols.specs.declared.Source.TheVariants.{Values, Given}
 use Rattle.resolve_symbols.specs.Brings.{list_of, brings, named_as, NamedFits}
 use Rattle.resolve_operands.specs.declared.NextName.{NextName}
-use Rattle.resolve_operands.specs.declared.Placed.{Placed}
-use Rattle.resolve_operands.specs.declared.Placed.TheVariants.{At, Missing, NoName}
+use Rattle.read_forms.specs.declared.Fault.{Fault}
+use Rattle.read_forms.specs.declared.Fault.TheVariants.{UnknownName}
+use Rattle.std.specs.Prelude as prelude
 
 -- where its entries start, and how many there are
 abbrev pub extent_of : Layout → Source → Items
@@ -44,7 +45,7 @@ pub record Word (list ws : List (List ℕ)) (o : Option ℕ) : Type 0 where
   pub are : ws ≡ word ∷ []
   pub found : place_in (same_bytes word) list ≡ o
 
-abbrev pub PlacedAs : List (List ℕ) → List (List ℕ) → Placed → Type 0
-PlacedAs list ws (At i) = Word list ws (some i)
-PlacedAs list ws Missing = Word list ws none
-PlacedAs list ws NoName = ws ≡ []
+abbrev pub PlacedAs : List (List ℕ) → List (List ℕ) → prelude.Result (prelude.Option ℕ) Fault → Type 0
+PlacedAs list ws (prelude.Ok (prelude.Some i)) = Word list ws (some i)
+PlacedAs list ws (prelude.Ok prelude.None) = ws ≡ []
+PlacedAs list ws (prelude.Err k) = (k ≡ UnknownName) × Word list ws none

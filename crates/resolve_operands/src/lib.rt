@@ -11,20 +11,15 @@ ghost use Rattle.read_parts.specs.Meaning.{OperandFits};
 ghost use Rattle.resolve_context.specs.Lists.{names_in, Sound, Stands, covariates_of, layout_of};
 ghost use Rattle.resolve_symbols.specs.Lets.{LetsFit};
 ghost use Rattle.resolve_symbols.specs.Sources.{source_list, SourceFits, LookedFits};
-ghost use Rattle.resolve_operands.specs.Picked.{stands_in, with_index};
+ghost use Rattle.resolve_operands.specs.Picked.{with_index};
 ghost use Rattle.resolve_symbols.specs.Brings.{named_as, NamedFits};
 ghost use Rattle.resolve_operands.specs.Named.{extent_of, EntryAt, NameHere, PlacedAs};
 ghost use Rattle.resolve_operands.specs.Entries.{EntriesAs, target_of, StandsFor, operand_names, parameters_in, covariates_in};
 
-use read_forms::{Items, Operand};
-use resolve_context::{Found, Layout, Names};
-use resolve_symbols::{Listing, Looked, Named, Source};
+use read_forms::{Fault, Items, Operand};
+use resolve_context::{Layout, Names};
+use resolve_symbols::{Listing, Named, Source};
 use tokens::{Classes, Cursor};
-
-// The faults of an operand by their numbers.
-pub const UNKNOWN_SYMBOL: u8 = 14;
-
-pub const UNKNOWN_NAME: u8 = 15;
 
 // What an entry of a source brings, and the cursor behind it where it stands in the text.
 #[derive(Clone, Copy)]
@@ -33,43 +28,13 @@ struct NextName {
     next: Cursor,
 }
 
-// Where a name stands in a list.
-#[derive(Clone, Copy)]
-enum Placed {
-    At(usize),
-    Missing,
-    NoName,
-}
-
-// How many indexes an operand has in the array that was lent, or the fault for which there are none.
-#[derive(Clone, Copy)]
-pub enum Entries {
-    Count(usize),
-    Refused(u8),
-}
-
-// Whether an index stands among the first so many.
-fn among(indexes: &[u8; 64], count: usize, index: u8) -> bool
-    requires { (count ≤ 64) × (length indexes.now ≡ 64) }
-    ensures { result ≡ stands_in (take count indexes.now) index }
-{
-    let mut k = 0;
-    while k < count {
-        if indexes[k] == index {
-            return true;
-        }
-        k += 1;
-    }
-    false
-}
-
 // One index more, unless it stands there already; and how many there are then.
 fn push_index(indexes: &mut [u8; 64], count: usize, index: u8) -> usize
     requires { (length indexes.old ≡ 64) × (count < 64) }
     ensures { (length indexes.new ≡ 64) × (take result indexes.new ≡ with_index (take count indexes.old) index)
         × (result ≤ count + 1) }
 {
-    if among(indexes, count, index) {
+    if indexes[..count].contains(&index) {
         return count;
     }
     indexes[count] = index;
@@ -124,19 +89,30 @@ fn next_name(
     }
 }
 
-// Where a word stands in a list: the place of its first entry, or that it has none.
-fn place_of_word(block: &[u8], lists: &[u32], target: Names, word: &[u8]) -> Placed
+// Where a word stands in a list: the place of its first entry, or the fault that it has none.
+fn place_of_word(
+    block: &[u8],
+    lists: &[u32],
+    target: Names,
+    word: &[u8],
+) -> Result<Option<usize>, Fault>
     requires { Sound block.now lists.now target }
     ensures { PlacedAs (names_in block.now lists.now target) (word.now ∷ []) result }
 {
     match resolve_context::index_of(block, lists, target, word) {
-        Found::Place(place) => Placed::At(place),
-        Found::Nothing => Placed::Missing,
+        Some(place) => Ok(Some(place)),
+        None => Err(Fault::UnknownName),
     }
 }
 
-// Where a name stands in a list, if there is one. It is spelled in the text or in the block, by its mark.
-fn place_of(text: &[u8], block: &[u8], lists: &[u32], target: Names, named: Named) -> Placed
+// Where a name stands in a list, if there is one, or the fault that it has no entry. It is spelled in the text or in the block, by its mark.
+fn place_of(
+    text: &[u8],
+    block: &[u8],
+    lists: &[u32],
+    target: Names,
+    named: Named,
+) -> Result<Option<usize>, Fault>
     requires { Sound block.now lists.now target × NamedFits text.now block.now named }
     ensures { PlacedAs (names_in block.now lists.now target) (named_as text.now block.now named) result }
 {
@@ -145,11 +121,12 @@ fn place_of(text: &[u8], block: &[u8], lists: &[u32], target: Names, named: Name
         Named::Block(name) => {
             place_of_word(block, lists, target, read_forms::spelling(block, name))
         }
-        Named::Nothing => Placed::NoName,
+        Named::Nothing => Ok(None),
     }
 }
 
-// The names of a source, each held to a list as it is brought, or that one is not there. So no array of pairs is made of them.
+// The names of a source, each held to a list as it is brought, unless one is not there. So no array of pairs is made of them. How many indexes there
+// are in the array that is lent.
 fn hold(
     text: &[u8],
     classes: &Classes,
@@ -159,36 +136,24 @@ fn hold(
     source: Source,
     target: Names,
     indexes: &mut [u8; 64],
-) -> Entries
+) -> Result<usize, Fault>
     requires { (classes.now ≡ class_table) × Stands block.now lists.now layout × SourceFits text.now source
         × Sound block.now lists.now target × (length indexes.old ≡ 64) }
     ensures { EntriesAs target.count (held (names_in block.now lists.now target)
         (accepted (source_list (handed_context block.now lists.now) text.now source))) indexes.new result }
 {
     let extent = extent_of(layout, source);
-    let count = extent.count;
     let mut n = 0;
-    let mut i = 0;
     let mut cur = extent.first;
-    while i < count {
+    for i in 0..extent.count {
         let here = next_name(text, classes, block, lists, layout, source, i, cur);
-        let named = here.named;
-        match place_of(text, block, lists, target, named) {
-            Placed::At(place) => {
-                n = push_index(indexes, n, place as u8);
-                cur = here.next;
-                i += 1;
-            }
-            Placed::Missing => {
-                return Entries::Refused(UNKNOWN_NAME);
-            }
-            Placed::NoName => {
-                cur = here.next;
-                i += 1;
-            }
+        cur = here.next;
+        let found = place_of(text, block, lists, target, here.named)?;
+        if let Some(place) = found {
+            n = push_index(indexes, n, place as u8);
         }
     }
-    Entries::Count(n)
+    Ok(n)
 }
 
 // The list that names are held to: that of covariates, or the parameters.
@@ -212,18 +177,18 @@ fn source_of<'a>(
     star: &'a [u8],
     every: bool,
     operand: Operand,
-) -> Looked
+) -> Option<Source>
     requires { LetsFit text.now lets.now n × OperandFits text.now operand }
     ensures { LookedFits text.now result
         × StandsFor text.now layout result
         (operand_names text.now lets.now n star.now every operand) }
 {
     let word = match operand {
-        Operand::Names(items) => return Looked::Names(Source::Values(items)),
+        Operand::Names(items) => return Some(Source::Values(items)),
         Operand::Symbol(name) => read_forms::spelling(text, name),
         Operand::Wildcard => {
             if every {
-                return Looked::Names(Source::Given(Listing::Covariates));
+                return Some(Source::Given(Listing::Covariates));
             }
             star
         }
@@ -243,7 +208,7 @@ fn operand_entries<'a>(
     every: bool,
     operand: Operand,
     indexes: &mut [u8; 64],
-) -> Entries
+) -> Result<usize, Fault>
     requires { (classes.now ≡ class_table) × (is_handed block.now lists.now ≡ true) × LetsFit text.now lets.now n
         × OperandFits text.now operand × (length indexes.old ≡ 64) }
     ensures { EntriesAs (target_of (layout_of lists.now) every).count (cond every
@@ -253,13 +218,13 @@ fn operand_entries<'a>(
 {
     let layout = resolve_context::read_layout(lists);
     let target = target_of(layout, every);
-    let Looked::Names(source) = source_of(text, lets, n, layout, star, every, operand) else {
-        return Entries::Refused(UNKNOWN_SYMBOL);
+    let Some(source) = source_of(text, lets, n, layout, star, every, operand) else {
+        return Err(Fault::UnknownSymbol);
     };
     hold(text, classes, block, lists, layout, source, target, indexes)
 }
 
-// The parameters of an operand, as indexes of the context's.
+// The parameters of an operand, as indexes of the context's: how many there are in the array that is lent, or the fault for which there are none.
 pub fn parameters_of<'a>(
     text: &'a [u8],
     classes: &Classes,
@@ -270,7 +235,7 @@ pub fn parameters_of<'a>(
     star: &'a [u8],
     operand: Operand,
     indexes: &mut [u8; 64],
-) -> Entries
+) -> Result<usize, Fault>
     requires { (classes.now ≡ class_table) × (is_handed block.now lists.now ≡ true) × LetsFit text.now lets.now n
         × OperandFits text.now operand × (length indexes.old ≡ 64) }
     ensures { EntriesAs (layout_of lists.now).parameters.count
@@ -292,7 +257,7 @@ pub fn covariates_of(
     n: usize,
     operand: Operand,
     indexes: &mut [u8; 64],
-) -> Entries
+) -> Result<usize, Fault>
     requires { (classes.now ≡ class_table) × (is_handed block.now lists.now ≡ true) × LetsFit text.now lets.now n
         × OperandFits text.now operand × (length indexes.old ≡ 64) }
     ensures { EntriesAs (covariates_of (layout_of lists.now)).count

@@ -4,39 +4,40 @@ use Prim.Native.Nat.{ℕ, zero, suc, ◌+◌, ◌<◌, ◌≤◌}
 use native.Mathlib.Omega.{arith}
 use native.Mathlib.Numerals.{add-one}
 use mathlib.Core.Path.{◌≡◌, refl, ◌∙◌, ap, sym}
-use mathlib.Core.List.{List, [], ◌∷◌, ◌++◌, map, map-id}
-use lib.ListN.{length, take, drop, get_or, set, replicate}
+use mathlib.Core.List.{List, [], ◌∷◌, ◌++◌, map}
+use Rattle.std.proofs.lemmas.List.{map-id}
+use lib.ListN.{length, take, drop, get_or, set}
 
 -- of `count` entries that a loop puts over the first of `before`, f of each of a run, the first `i` are there by now
-pub record Filled {B : Type 0} (f : ℕ → B) (run : List ℕ) (before : List B) (count i : ℕ) (now : List B) : Type 0 where
+pub record Filled {A B : Type 0} (f : A → B) (run : List A) (before : List B) (count i : ℕ) (now : List B) : Type 0 where
   pub room : count ≤ length before
   pub given : count ≤ length run
   pub within : i ≤ count
   pub entries : now ≡ map f (take i run) ++ drop i before
 
 -- none yet
-pub none_filled : {B : Type 0} {f : ℕ → B} {run : List ℕ} {before : List B} {count : ℕ}
+pub none_filled : {A B : Type 0} {f : A → B} {run : List A} {before : List B} {count : ℕ}
     → count ≤ length before
     → count ≤ length run
     → Filled f run before count 0 before
 none_filled h k = record { room = h; given = k; within = omega arith; entries = refl }
 
-module _ {B : Type 0} (f : ℕ → B) where
-  entry_set : (run : List ℕ) (before : List B) (i : ℕ) → i < length run → i < length before
-      → set (map f (take i run) ++ drop i before) i (f (get_or run i 0)) ≡ map f (take (suc i) run) ++ drop (suc i) before
-  entry_set [] before i h k = absurd (omega arith)
-  entry_set (s ∷ run) [] i h k = absurd (omega arith)
-  entry_set (s ∷ run) (x ∷ before) zero h k = refl
-  entry_set (s ∷ run) (x ∷ before) (suc i) h k = ap (λ (l : List B). f s ∷ l) (entry_set run before i (omega arith) (omega arith))
+module _ {A B : Type 0} (f : A → B) where
+  entry_set : (d : A) (run : List A) (before : List B) (i : ℕ) → i < length run → i < length before
+      → set (map f (take i run) ++ drop i before) i (f (get_or run i d)) ≡ map f (take (suc i) run) ++ drop (suc i) before
+  entry_set d [] before i h k = absurd (omega arith)
+  entry_set d (s ∷ run) [] i h k = absurd (omega arith)
+  entry_set d (s ∷ run) (x ∷ before) zero h k = refl
+  entry_set d (s ∷ run) (x ∷ before) (suc i) h k = ap (λ (l : List B). f s ∷ l) (entry_set d run before i (omega arith) (omega arith))
 
-  entries-length : (run : List ℕ) (before : List B) (i : ℕ) → i ≤ length run → i ≤ length before
+  entries-length : (run : List A) (before : List B) (i : ℕ) → i ≤ length run → i ≤ length before
       → length (map f (take i run) ++ drop i before) ≡ length before
   entries-length run before zero h k = refl
   entries-length [] before (suc i) h k = absurd (omega arith)
   entries-length (s ∷ run) [] (suc i) h k = absurd (omega arith)
   entries-length (s ∷ run) (x ∷ before) (suc i) h k = ap suc (entries-length run before i (omega arith) (omega arith))
 
-module _ {B : Type 0} {f : ℕ → B} {run : List ℕ} {before : List B} {count i : ℕ} {now : List B} (g : Filled f run before count i now) where
+module _ {A B : Type 0} {f : A → B} {run : List A} {before : List B} {count i : ℕ} {now : List B} (g : Filled f run before count i now) where
   -- the buffer keeps its length
   pub filled_length : length now ≡ length before
   filled_length = ap length g.entries ∙ entries-length f run before i (omega arith) (omega arith)
@@ -45,16 +46,16 @@ module _ {B : Type 0} {f : ℕ → B} {run : List ℕ} {before : List B} {count 
   pub filled_inside : i < count → i < length now
   filled_inside h = omega (arith, filled_length)
 
-  -- one entry more
-  pub filled_next : {y : B} → i < count → y ≡ f (get_or run i 0) → Filled f run before count (i + 1) (set now i y)
-  filled_next {y} h e = record {
+  -- one entry more, whatever stands for one that is not there
+  pub filled_next : {y : B} (d : A) → i < count → y ≡ f (get_or run i d) → Filled f run before count (i + 1) (set now i y)
+  filled_next {y} d h e = record {
     room = g.room;
     given = g.given;
     within = omega arith;
     entries =
         ap (λ (l : List B). set l i y) g.entries
         ∙ ap (λ (x : B). set (map f (take i run) ++ drop i before) i x) e
-        ∙ entry_set f run before i (omega arith) (omega arith)
+        ∙ entry_set f d run before i (omega arith) (omega arith)
         ∙ ap (λ (n : ℕ). map f (take n run) ++ drop n before) (sym (add-one i));
   }
 
@@ -65,22 +66,11 @@ module _ {B : Type 0} {f : ℕ → B} {run : List ℕ} {before : List B} {count 
       g.entries ∙ ap (λ (n : ℕ). map f (take n run) ++ drop n before) end
 
 -- all of a run that is put as it is
-pub copied_all : {run before now : List ℕ} {count i : ℕ}
+pub copied_all : {A : Type 0} {run before now : List A} {count i : ℕ}
     → Filled (λ x. x) run before count i now
     → count ≤ i
     → now ≡ take count run ++ drop count before
-copied_all {run} {before} {count = count} g h = filled_all g h ∙ ap (λ (l : List ℕ). l ++ drop count before) (map-id (take count run))
-
--- a whole buffer, with 0 for each of its entries
-all-zero : (l : List ℕ) → map (λ x. 0) (take (length l) l) ++ drop (length l) l ≡ replicate (length l) 0
-all-zero [] = refl
-all-zero (x ∷ l) = ap (λ (m : List ℕ). 0 ∷ m) (all-zero l)
-
-pub zeroed_all : {before now : List ℕ} {i : ℕ}
-    → Filled (λ x. 0) before before (length before) i now
-    → length before ≤ i
-    → now ≡ replicate (length before) 0
-zeroed_all {before} g h = filled_all g h ∙ all-zero before
+copied_all {A} {run} {before} {count = count} g h = filled_all g h ∙ ap (λ (l : List A). l ++ drop count before) (map-id (take count run))
 
 -- one entry behind those that were filled
 behind : {B : Type 0} (xs before : List B) (y : B)

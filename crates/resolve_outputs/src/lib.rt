@@ -25,10 +25,8 @@ pub fn put_effects(effects: &mut [[u8; 5]], work: &[u32], count: usize)
     requires { (count ≤ length effects.old) × (count ≤ length work.now) }
     ensures { effects.new ≡ map effect_numbers (map effect_of (take count work.now)) ++ drop count effects.old }
 {
-    let mut i = 0;
-    while i < count {
+    for i in 0..count {
         effects[i] = effect_numbers(work[i]);
-        i += 1;
     }
 }
 
@@ -37,10 +35,8 @@ fn put_dropped(notes: &mut [[u8; 2]], dropped: &[u8], count: usize)
     requires { (count ≤ length notes.old) × (count ≤ length dropped.now) }
     ensures { notes.new ≡ map dropped_at (take count dropped.now) ++ drop count notes.old }
 {
-    let mut i = 0;
-    while i < count {
+    for i in 0..count {
         notes[i] = [0, dropped[i]];
-        i += 1;
     }
 }
 
@@ -64,27 +60,14 @@ pub fn put_notes(notes: &mut [[u8; 2]], dropped: &[u8], count: usize, additive: 
     put_additive(notes, count, additive);
 }
 
-// The first so many bytes of a text.
-pub fn put_text(out: &mut [u8], text: &[u8], count: usize)
-    requires { (count ≤ length out.old) × (count ≤ length text.now) }
-    ensures { out.new ≡ take count text.now ++ drop count out.old }
+// The first so many elements of what was made elsewhere: bytes of a text, or packed effects as they are. No `copy_from_slice`: it needs memmove, and
+// the library that C calls needs memcpy and memset alone (include/dumachik.h).
+pub fn put_first<T: Copy>(out: &mut [T], made: &[T], count: usize)
+    requires { (count ≤ length out.old) × (count ≤ length made.now) }
+    ensures { out.new ≡ take count made.now ++ drop count out.old }
 {
-    let mut i = 0;
-    while i < count {
-        out[i] = text[i];
-        i += 1;
-    }
-}
-
-// The first so many effects of a packed run that was made on a bench, packed as they are.
-pub fn put_packed(work: &mut [u32], bench: &[u32], count: usize)
-    requires { (count ≤ length work.old) × (count ≤ length bench.now) }
-    ensures { work.new ≡ take count bench.now ++ drop count work.old }
-{
-    let mut i = 0;
-    while i < count {
-        work[i] = bench[i];
-        i += 1;
+    for i in 0..count {
+        out[i] = made[i];
     }
 }
 
@@ -92,9 +75,5 @@ pub fn put_packed(work: &mut [u32], bench: &[u32], count: usize)
 pub fn clear(work: &mut [u32])
     ensures { work.new ≡ replicate (length work.old) 0 }
 {
-    let mut i = 0;
-    while i < work.len() {
-        work[i] = 0;
-        i += 1;
-    }
+    work.fill(0);
 }

@@ -2,7 +2,7 @@
 // calls a law of `record_laws`; all work is in functions over numbers.
 #![tactic(auto)]
 
-ghost use Rattle.std.specs.Prelude.{◌≡◌, ◌++◌, map, ◌+◌, ◌*◌, ◌≤◌, ◌<◌, length, get_or, take, drop};
+ghost use Rattle.std.specs.Prelude.{◌≡◌, ◌≤◌, length};
 ghost use Rattle.resolving.specs.Resolve.{ground_text};
 ghost use Rattle.resolving.specs.Call.{resolving_call, lengths_of, output_of, work_after, note_numbers};
 ghost use Rattle.resolve_settling.specs.Answers.{Packed, resolved_as, lengths_as, rooms, lent};
@@ -25,40 +25,19 @@ pub struct Effect {
     pub optional: u8,
 }
 
-// The effect at an index of a packed run.
-fn effect_in(packed: &[u32], i: usize) -> Effect
-    requires { i < length packed.now }
-    ensures { result ≡ unpacked (get_or packed.now i 0) }
-{
-    let n = packed[i];
-    Effect {
-        parameter: (n / 2048 % 64) as u8,
-        covariate: (n / 32 % 64) as u8,
-        form: (n / 4 % 8) as u8,
-        operator: (n / 2 % 2) as u8,
-        optional: (n % 2) as u8,
-    }
-}
-
-// Effects that are packed, each in one number.
-pub struct Effects;
-
-impl Unpacks for Effects {
-    type Record = Effect;
-
+// Effects can be packed, each in one number.
+impl Unpacks for Effect {
     ghost unpack = { unpacked };
 
-    fn record_in(packed: &[u32], i: usize) -> Effect {
-        effect_in(packed, i)
+    fn unpacked(n: u32) -> Effect {
+        Effect {
+            parameter: (n / 2048 % 64) as u8,
+            covariate: (n / 32 % 64) as u8,
+            form: (n / 4 % 8) as u8,
+            operator: (n / 2 % 2) as u8,
+            optional: (n % 2) as u8,
+        }
     }
-}
-
-// The first n effects of a packed run; those behind them are left as they were.
-pub fn store_effects(effects: &mut [Effect], packed: &[u32], n: usize)
-    requires { (n ≤ length effects.old) × (n ≤ length packed.now) }
-    ensures { effects.new ≡ map unpacked (take n packed.now) ++ drop n effects.old }
-{
-    record_laws::store::<Effects>(effects, packed, n);
 }
 
 fn lengths_word(n: Lengths) -> u64
@@ -74,8 +53,8 @@ fn resolved_word(resolved: Resolved) -> u64
     ensures { result ≡ resolved_word (resolved_as resolved) }
 {
     match resolved {
-        Resolved::Lengths(n) => lengths_word(n),
-        Resolved::Refused(refusal) => words::refusal_word(refusal),
+        Ok(n) => lengths_word(n),
+        Err(refusal) => words::refusal_word(refusal),
     }
 }
 
@@ -125,8 +104,6 @@ impl PackedCall for Resolving {
 
     type Note = [u8; 2];
 
-    ghost unpack = { unpacked };
-
     ghost counted = { effects_told };
 
     ghost finished = { work_after };
@@ -158,10 +135,6 @@ impl PackedCall for Resolving {
 
     fn count(word: u64) -> usize {
         effects_told(word)
-    }
-
-    fn store(effects: &mut [Effect], packed: &[u32], n: usize) {
-        store_effects(effects, packed, n);
     }
 
     fn finish(work: &mut [u32]) {

@@ -12,7 +12,7 @@ use Rattle.resolving.specs.Resolve as definition
 use Rattle.resolving.specs.Resolve.{ground_text}
 use Rattle.resolving.specs.Call as call
 use Rattle.resolving.specs.Call.{exceeds, lengths_in, room_for, lengths_of, output_of, note_numbers}
-use Rattle.resolve_settling.specs.declared.Resolved.{Resolved}
+use Rattle.resolve_settling.specs.Answers.{Resolved}
 use Rattle.resolve_settling.specs.Answers.{resolved_as, rooms, PackedIn, Answers}
 
 or_true : (y : Bool) → (y || true) ≡ true

@@ -13,21 +13,20 @@ use Rattle.resolving.specs.Resolve.{Resolved}
 use Rattle.text.proofs.All.{All}
 use Rattle.resolve_merging.specs.Packing.{effect_of}
 use Rattle.resolve_merging.specs.Outcomes.{Settles, Groups, GroupsStand, GroupsListed}
-use Rattle.resolve_merging.specs.declared.Outcome.{Outcome}
-use Rattle.resolve_merging.specs.declared.Outcome.TheVariants as outcomes
-use Rattle.resolve_merging.specs.declared.Grouped.{Grouped}
-use Rattle.resolve_merging.specs.declared.Grouped.TheVariants as grouped
+use Rattle.resolve_merging.specs.declared.ForcedAgain.{ForcedAgain}
+use Rattle.std.specs.Prelude as prelude
 use Rattle.resolve_merging.proofs.Answers.{merged-plain, groups-stand}
 use Rattle.resolve_groups.specs.Known.{Entered, GroupsKnown}
 use Rattle.resolve_groups.proofs.Groups.{buffer_known, few-known}
 use Rattle.resolve_statements.specs.declared.Tally.{Tally}
-use Rattle.resolve_settling.specs.declared.Attempt.{Attempt}
+use Rattle.std.specs.Prelude as prelude
+use Rattle.resolve_settling.specs.Answers as answers
 use Rattle.resolve_settling.specs.Attempts.{StaysWritten, EffectsGrouped, AttemptAs}
 use Rattle.resolve_settling.proofs.Grounds.{Unforced, merged-entered}
 use Rattle.resolve_settling.proofs.Settling.{unforced}
 
-module _ {c : Context} {t : Tally} {ds work made : List ℕ} (x : StaysWritten c t ds work made) (low : t.terms ≤ 2048) {work' : List ℕ} {r : Outcome}
-    (s : Settles t.terms work work' r) (m : ℕ) (h : r ≡ outcomes.Effects m) where
+module _ {c : Context} {t : Tally} {ds work made : List ℕ} (x : StaysWritten c t ds work made) (low : t.terms ≤ 2048) {work' : List ℕ} {r : prelude.Result ℕ ForcedAgain}
+    (s : Settles t.terms work work' r) (m : ℕ) (h : r ≡ prelude.Ok m) where
   abbrev right : Unforced x.there.what (map effect_of (take m work'))
   right = unforced x.there low s m h
 
@@ -59,9 +58,9 @@ module _ {c : Context} {t : Tally} {ds work made : List ℕ} (x : StaysWritten c
 
   -- any number of them, whose groups stand behind them, in a part that goes to the buffer's end
   unfoldable pub many_grounding :
-      {work'' : List ℕ} {g : Grouped} {k : ℕ}
+      {work'' : List ℕ} {g : prelude.Option ℕ} {k : ℕ}
       → Groups m work' work'' g
-      → g ≡ grouped.Groups k
+      → g ≡ prelude.Some k
       → 6656 ≤ length work
       → EffectsGrouped c t ds work'' (take (length work'' - 6144) (drop 6144 work'')) m k made
   many_grounding {work''} {k = k} q o wide =
@@ -83,7 +82,7 @@ module _ {c : Context} {t : Tally} {ds work made : List ℕ} (x : StaysWritten c
 
 -- an answer for another that is equal
 pub same-few :
-    (a b : Answer Resolved) (g : List ℕ) (e : ℕ) (n : List (List ℕ)) (g' : List ℕ) (n' : List (List ℕ)) (w' : List ℕ) (r : Attempt)
+    (a b : Answer Resolved) (g : List ℕ) (e : ℕ) (n : List (List ℕ)) (g' : List ℕ) (n' : List (List ℕ)) (w' : List ℕ) (r : prelude.Option answers.Resolved)
     → b ≡ a
     → AttemptAs a g e n g' n' w' r
     → AttemptAs b g e n g' n' w' r

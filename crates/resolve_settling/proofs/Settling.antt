@@ -21,10 +21,8 @@ use Rattle.resolving.specs.Resolve.{merge_and_ground}
 use Rattle.resolving_laws.specs.Flat.{terms_from}
 use Rattle.resolve_merging.specs.Packing.{effect_of, term_of}
 use Rattle.resolve_merging.specs.Outcomes.{Settles, Groups}
-use Rattle.resolve_merging.specs.declared.Outcome.{Outcome}
-use Rattle.resolve_merging.specs.declared.Outcome.TheVariants as outcomes
-use Rattle.resolve_merging.specs.declared.Grouped.{Grouped}
-use Rattle.resolve_merging.specs.declared.Grouped.TheVariants as grouped
+use Rattle.resolve_merging.specs.declared.ForcedAgain.{ForcedAgain}
+use Rattle.std.specs.Prelude as prelude
 use Rattle.resolve_merging.proofs.Answers.{merged-answer, refused-answer, groups-over}
 use Rattle.resolve_statements.specs.declared.Tally.{Tally}
 use Rattle.resolve_statements.specs.Tallies.{notes_from, AllBrings}
@@ -41,21 +39,21 @@ module _ {a : Answer (List Brought)} {t : Tally} {ds work : List ℕ} (b : Broug
   pub over-brought : (c : Context) → 2048 < t.terms → merge_and_ground c b.what ≡ refused 18 0
   over-brought c h = over-merged c b.what (omega (arith, many-terms))
 
-  module _ (few : t.terms ≤ 2048) {work' : List ℕ} {r : Outcome} (s : Settles t.terms work work' r) where
+  module _ (few : t.terms ≤ 2048) {work' : List ℕ} {r : prelude.Result ℕ ForcedAgain} (s : Settles t.terms work work' r) where
     few-effects : length (gather effects_in b.what) ≤ 2048
     few-effects = omega (arith, many-terms)
 
-    pub forced-brought : (c : Context) (i : ℕ) → r ≡ outcomes.Refused i → merge_and_ground c b.what ≡ refused 17 i
+    pub forced-brought : (c : Context) (i : ℕ) → r ≡ prelude.Err (record { statement = i }) → merge_and_ground c b.what ≡ refused 17 i
     forced-brought c i h = forced-merged c b.what few-effects i (forced_told b.what i (refused-answer s b.what (b.terms few) h))
 
-    module _ (m : ℕ) (h : r ≡ outcomes.Effects m) where
+    module _ (m : ℕ) (h : r ≡ prelude.Ok m) where
       pub unforced : Unforced b.what (map effect_of (take m work'))
       unforced = merged-told b.what (map effect_of (take m work')) (merged-answer s b.what (b.terms few) h)
 
       pub on-merged : (c : Context) → merge_and_ground c b.what ≡ grounded c b.what
       on-merged c = peace-merged c b.what few-effects unforced.peace
 
-      pub over-grouped : (c : Context) {work'' : List ℕ} {g : Grouped} → Groups m work' work'' g → g ≡ grouped.Many → merge_and_ground c b.what ≡ refused 18 0
+      pub over-grouped : (c : Context) {work'' : List ℕ} {g : prelude.Option ℕ} → Groups m work' work'' g → g ≡ prelude.None → merge_and_ground c b.what ≡ refused 18 0
       over-grouped c q k =
           on-merged c
           ∙ many-grounded c b.what

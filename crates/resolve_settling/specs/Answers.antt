@@ -1,4 +1,5 @@
 -- What Resolve answers, and what its outputs hold afterwards, for an answer of the definition.
+use Rattle.read_forms.specs.Faults.{refused_by}
 use Rattle.std.specs.Prelude.{ℕ, List, map, ◌≡◌, length, take}
 use Rattle.reading.specs.Answer.{Answer, accepted, refused}
 use Rattle.resolving.specs.Resolve as definition
@@ -7,15 +8,19 @@ use Rattle.resolving.specs.Call as call
 use Rattle.resolving.specs.Call.{room_for, lengths_of, output_of, note_numbers, work_after}
 use Rattle.resolve_merging.specs.Packing.{effect_of}
 use Rattle.resolve_settling.specs.declared.Lengths.{Lengths}
-use Rattle.resolve_settling.specs.declared.Resolved.{Resolved}
-use Rattle.resolve_settling.specs.declared.Resolved.TheVariants as resolved
+use Rattle.read_forms.specs.declared.Refusal.{Refusal}
+use Rattle.std.specs.Prelude as prelude
 
 abbrev pub lengths_as : Lengths → call.Lengths
 lengths_as n = record { ground = n.ground; effects = n.effects; notes = n.notes }
 
+-- the three lengths, or why the text is refused
+abbrev pub Resolved : Type 0
+Resolved = prelude.Result Lengths Refusal
+
 unfoldable pub resolved_as : Resolved → Answer call.Lengths
-resolved_as (resolved.Lengths n) = accepted (lengths_as n)
-resolved_as (resolved.Refused r) = refused r.number r.place
+resolved_as (prelude.Ok n) = accepted (lengths_as n)
+resolved_as (prelude.Err r) = refused_by r
 
 -- the lengths of the outputs that are lent, where there is room for so many effects, and where they are an output too
 abbrev pub rooms : List ℕ → ℕ → List (List ℕ) → call.Lengths

@@ -14,9 +14,8 @@ use Rattle.resolving.specs.Resolve as definition
 use Rattle.resolve_merging.specs.Packing.{effect_of}
 use Rattle.resolve_groups.specs.Known.{GroupsKnown}
 use Rattle.resolve_statements.specs.declared.Tally.{Tally}
-use Rattle.resolve_settling.specs.declared.Attempt.{Attempt}
-use Rattle.resolve_settling.specs.declared.Attempt.TheVariants as attempt
-use Rattle.resolve_settling.specs.Answers.{Answers}
+use Rattle.std.specs.Prelude as prelude
+use Rattle.resolve_settling.specs.Answers.{Resolved, Answers}
 use Rattle.resolve_settling.specs.Stages.{Tallied, BroughtThere}
 
 -- `made` has the ground statements of what stays, as far as there is room for them
@@ -38,11 +37,11 @@ pub record EffectsGrouped (c : Context) (t : Tally) (dropped work listed : List 
   pub text : Written before 0 (rest_of 0 (gather staying what)) made t.ground
 
 -- an answer, or none, and then nothing was put out
-unfoldable pub AttemptAs : Answer definition.Resolved → List ℕ → ℕ → List (List ℕ) → List ℕ → List (List ℕ) → List ℕ → Attempt → Type 0
-AttemptAs a made room notes ground' notes' work' (attempt.Answer r) = Answers a made room notes ground' notes' work' r
-AttemptAs a made room notes ground' notes' work' attempt.NoRoom = (ground' ≡ made) × (notes' ≡ notes)
+unfoldable pub AttemptAs : Answer definition.Resolved → List ℕ → ℕ → List (List ℕ) → List ℕ → List (List ℕ) → List ℕ → prelude.Option Resolved → Type 0
+AttemptAs a made room notes ground' notes' work' (prelude.Some r) = Answers a made room notes ground' notes' work' r
+AttemptAs a made room notes ground' notes' work' prelude.None = (ground' ≡ made) × (notes' ≡ notes)
 
 -- there is none only where what is made has less room than a ground text may need
-unfoldable pub Roomy : List ℕ → Attempt → Type 0
-Roomy made (attempt.Answer r) = Unit {0}
-Roomy made attempt.NoRoom = length made < 16384
+unfoldable pub Roomy : List ℕ → prelude.Option Resolved → Type 0
+Roomy made (prelude.Some r) = Unit {0}
+Roomy made prelude.None = length made < 16384

@@ -8,15 +8,15 @@ ghost use Rattle.resolving.specs.Resolve as definition;
 ghost use Rattle.resolving.specs.Handed.{handed_context};
 ghost use Rattle.resolve_context.specs.Lists.{Stands};
 ghost use Rattle.resolve_outputs.specs.Entries.{additive_note};
+ghost use Rattle.read_forms.specs.Faults.{number_of};
 ghost use Rattle.resolve_settling.specs.Answers.{resolved_as};
 ghost use Rattle.resolve_settling.specs.Stages.{grounded};
 ghost use Rattle.resolve_settling.specs.Attempts.{StaysWritten, EffectsGrouped, AttemptAs, Roomy};
 
 use labels::{Keywords, Labels};
-use read_forms::Refusal;
+use read_forms::{Fault, Refusal};
 use resolve_context::Layout;
-use resolve_merging::{Grouped, Outcome};
-use resolve_merging_few::Merged;
+use resolve_merging::Bench;
 use resolve_statements::Tally;
 
 // How many bytes the ground text has, and how many effects and notes there are.
@@ -28,21 +28,12 @@ pub struct Lengths {
 }
 
 // The three lengths, or why the text is refused.
-#[derive(Clone, Copy)]
-pub enum Resolved {
-    Lengths(Lengths),
-    Refused(Refusal),
-}
+pub type Resolved = Result<Lengths, Refusal>;
 
-// The faults of resolving that are found here, by their numbers.
-pub const FORCED_TWICE: u8 = 17;
-
-pub const TOO_LARGE: u8 = 18;
-
-pub fn refuse(number: u8, place: usize) -> Resolved
-    ensures { resolved_as result ≡ refused number place }
+pub fn refuse(fault: Fault, place: usize) -> Resolved
+    ensures { resolved_as result ≡ refused (number_of fault) place }
 {
-    Resolved::Refused(Refusal { number, place })
+    Err(Refusal { fault, place })
 }
 
 // How many notes there are: one for each statement that is dropped, and one if some effect is additive.
@@ -56,14 +47,8 @@ fn note_count(dropped: usize, additive: bool) -> usize
     dropped
 }
 
-// The answer of a text, or that it needs more room here than there is: the way with full sizes then answers.
-#[derive(Clone, Copy)]
-pub enum Attempt {
-    Answer(Resolved),
-    NoRoom,
-}
-
-// The answer of grouped effects, where what stays stands in `made` already: the groups are written behind it, and all is put out if there is room.
+// The answer of grouped effects, where what stays stands in `made` already: the groups are written behind it, and all is put out if there is room. None,
+// where it needs more room here than there is: the way with full sizes then answers.
 fn put_made(
     block: &[u8],
     lists: &[u32],
@@ -80,7 +65,7 @@ fn put_made(
     notes: &mut [[u8; 2]],
     work: &[u32],
     listed: &[u32],
-) -> Attempt
+) -> Option<Resolved>
     requires { (labels.now ≡ label_table) × (keys.now ≡ keyword_table) × Stands block.now lists.now layout
         × EffectsGrouped (handed_context block.now lists.now) tally dropped.now work.now listed.now count groups made.old }
     ensures { ((g : EffectsGrouped (handed_context block.now lists.now) tally dropped.now work.now
@@ -89,7 +74,7 @@ fn put_made(
         ground.new notes.new work.now result) × Roomy made.old result }
 {
     if 256 < tally.stays + groups {
-        return Attempt::Answer(refuse(TOO_LARGE, 0));
+        return Some(refuse(Fault::TooLarge, 0));
     }
     let end = resolve_groups::put_groups(
         block,
@@ -106,25 +91,25 @@ fn put_made(
         tally.ground,
     );
     if 16384 < end {
-        return Attempt::Answer(refuse(TOO_LARGE, 0));
+        return Some(refuse(Fault::TooLarge, 0));
     }
     if made.len() < end {
-        return Attempt::NoRoom;
+        return None;
     }
     let additive = resolve_merging::additive(work, count);
     let remarks = note_count(tally.dropped, additive);
     if ground.len() < end {
-        return Attempt::Answer(refuse(read_forms::TOO_SHORT, 0));
+        return Some(refuse(Fault::TooShort, 0));
     }
     if room < count {
-        return Attempt::Answer(refuse(read_forms::TOO_SHORT, 0));
+        return Some(refuse(Fault::TooShort, 0));
     }
     if notes.len() < remarks {
-        return Attempt::Answer(refuse(read_forms::TOO_SHORT, 0));
+        return Some(refuse(Fault::TooShort, 0));
     }
-    resolve_outputs::put_text(ground, made, end);
+    resolve_outputs::put_first(ground, made, end);
     resolve_outputs::put_notes(notes, dropped, tally.dropped, additive);
-    Attempt::Answer(Resolved::Lengths(Lengths {
+    Some(Ok(Lengths {
         ground: end,
         effects: count,
         notes: remarks,
@@ -148,7 +133,7 @@ pub fn settle_few(
     room: usize,
     notes: &mut [[u8; 2]],
     work: &mut [u32],
-) -> Attempt
+) -> Option<Resolved>
     requires { (labels.now ≡ label_table) × (keys.now ≡ keyword_table) × Stands block.now lists.now layout
         × StaysWritten (handed_context block.now lists.now) tally dropped.now work.old made.old × (2048 ≤ length work.old)
         × (tally.terms ≤ 32) }
@@ -159,8 +144,8 @@ pub fn settle_few(
 {
     let mut listed = [0; 128];
     match resolve_merging_few::settle_few(work, tally.terms, &mut listed) {
-        Merged::Refused(index) => Attempt::Answer(refuse(FORCED_TWICE, index as usize)),
-        Merged::United(united) => put_made(
+        Err(again) => Some(refuse(Fault::ForcedTwice, again.statement as usize)),
+        Ok(united) => put_made(
             block,
             lists,
             labels,
@@ -193,29 +178,26 @@ fn settle_many(
     ground: &mut [u8],
     room: usize,
     notes: &mut [[u8; 2]],
-    bench: &mut [u32],
-) -> Attempt
+    bench: &mut Bench,
+) -> Option<Resolved>
     requires { (labels.now ≡ label_table) × (keys.now ≡ keyword_table) × Stands block.now lists.now layout
-        × StaysWritten (handed_context block.now lists.now) tally dropped.now bench.old made.old × (6656 ≤ length bench.old) }
+        × StaysWritten (handed_context block.now lists.now) tally dropped.now bench.old made.old }
     ensures { ((b : StaysWritten (handed_context block.now lists.now) tally dropped.now bench.old
         made.old)
         → AttemptAs (definition.merge_and_ground (handed_context block.now lists.now) b.there.what) ground.old room
         notes.old ground.new notes.new bench.new result) × Roomy made.old result }
 {
     if resolve_merging::TERMS < tally.terms {
-        return Attempt::Answer(refuse(TOO_LARGE, 0));
+        return Some(refuse(Fault::TooLarge, 0));
     }
     let count = match resolve_merging::settle(bench, tally.terms) {
-        Outcome::Refused(index) => {
-            return Attempt::Answer(refuse(FORCED_TWICE, index as usize));
+        Ok(count) => count,
+        Err(again) => {
+            return Some(refuse(Fault::ForcedTwice, again.statement as usize));
         }
-        Outcome::Effects(count) => count,
     };
-    let groups = match resolve_merging::group(bench, count) {
-        Grouped::Many => {
-            return Attempt::Answer(refuse(TOO_LARGE, 0));
-        }
-        Grouped::Groups(groups) => groups,
+    let Some(groups) = resolve_merging::group(bench, count) else {
+        return Some(refuse(Fault::TooLarge, 0));
     };
     let work = &bench[..];
     put_made(
@@ -250,10 +232,10 @@ pub fn settle(
     ground: &mut [u8],
     room: usize,
     notes: &mut [[u8; 2]],
-    bench: &mut [u32],
-) -> Attempt
+    bench: &mut Bench,
+) -> Option<Resolved>
     requires { (labels.now ≡ label_table) × (keys.now ≡ keyword_table) × Stands block.now lists.now layout
-        × StaysWritten (handed_context block.now lists.now) tally dropped.now bench.old made.old × (6656 ≤ length bench.old) }
+        × StaysWritten (handed_context block.now lists.now) tally dropped.now bench.old made.old }
     ensures { ((b : StaysWritten (handed_context block.now lists.now) tally dropped.now bench.old
         made.old)
         → AttemptAs (definition.merge_and_ground (handed_context block.now lists.now) b.there.what) ground.old room

@@ -1,4 +1,6 @@
 -- What statements bring, as it stands in buffers: terms, and the indexes of those that are dropped; and how much that is.
+use Rattle.read_forms.specs.declared.Fault.{Fault}
+use Rattle.read_forms.specs.Faults.{number_of}
 use Rattle.std.specs.Prelude.{ℕ, suc, ◌+◌, ◌≤◌, List, [], ◌∷◌, ◌++◌, map, ◌≡◌, length}
 use Rattle.reading.specs.Answer.{Answer, accepted, refused}
 use Rattle.print_writing.specs.Written.{Written}
@@ -9,8 +11,7 @@ use Rattle.resolving.specs.Ground.{staying}
 use Rattle.resolving_laws.specs.Flat.{terms_from}
 use Rattle.resolve_merging.specs.Packing.{term_of}
 use Rattle.resolve_statements.specs.declared.Tally.{Tally}
-use Rattle.resolve_statements.specs.declared.Step.{Step}
-use Rattle.resolve_statements.specs.declared.Step.TheVariants as step
+use Rattle.std.specs.Prelude as prelude
 
 -- The index of one that is dropped.
 abbrev pub note_of : ℕ → Brought → List ℕ
@@ -46,19 +47,19 @@ pub record Brings (a : Answer Brought) (i : ℕ) (t : Tally) (ts ds : List ℕ) 
   pub brought : a ≡ accepted what
   pub adds : Adds what i t ts ds u ts' ds'
 
-unfoldable pub BringAs : Answer Brought → ℕ → Tally → List ℕ → List ℕ → List ℕ → List ℕ → Step → Type 0
-BringAs a i t ts ds ts' ds' (step.Next u) = Brings a i t ts ds u ts' ds'
-BringAs a i t ts ds ts' ds' (step.Refused k) = a ≡ refused k 0
+unfoldable pub BringAs : Answer Brought → ℕ → Tally → List ℕ → List ℕ → List ℕ → List ℕ → prelude.Result Tally Fault → Type 0
+BringAs a i t ts ds ts' ds' (prelude.Ok u) = Brings a i t ts ds u ts' ds'
+BringAs a i t ts ds ts' ds' (prelude.Err k) = a ≡ refused (number_of k) 0
 
 -- what it adds to the ground text of those that stay
-unfoldable pub PrintsAs : Answer Brought → Tally → List ℕ → List ℕ → Step → Type 0
-PrintsAs a t out out' (step.Next u) = (b : Brought) → a ≡ accepted b → Written out t.ground (rest_of t.stays (staying b)) out' u.ground
-PrintsAs a t out out' (step.Refused k) = Unit {0}
+unfoldable pub PrintsAs : Answer Brought → Tally → List ℕ → List ℕ → prelude.Result Tally Fault → Type 0
+PrintsAs a t out out' (prelude.Ok u) = (b : Brought) → a ≡ accepted b → Written out t.ground (rest_of t.stays (staying b)) out' u.ground
+PrintsAs a t out out' (prelude.Err k) = Unit {0}
 
 -- nothing of it stays
-unfoldable pub NoneStays : Tally → Step → Type 0
-NoneStays t (step.Next u) = (u.stays ≡ t.stays) × (u.ground ≡ t.ground)
-NoneStays t (step.Refused k) = Unit {0}
+unfoldable pub NoneStays : Tally → prelude.Result Tally Fault → Type 0
+NoneStays t (prelude.Ok u) = (u.stays ≡ t.stays) × (u.ground ≡ t.ground)
+NoneStays t (prelude.Err k) = Unit {0}
 
 -- What all of them add.
 pub record Added (bs : List Brought) (ts ds : List ℕ) (u : Tally) (ts' ds' : List ℕ) : Type 0 where

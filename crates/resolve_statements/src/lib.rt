@@ -19,9 +19,8 @@ ghost use Rattle.resolve_features.specs.Terms.{SmallForms};
 ghost use Rattle.resolve_statements.specs.Tallies.{Noted, BringAs, PrintsAs, NoneStays};
 
 use labels::{Keywords, Labels};
-use read_forms::{CovariateOp, Feature, Modes, Operand, Statement};
+use read_forms::{CovariateOp, Fault, Feature, Modes, Operand, Statement};
 use resolve_context::Layout;
-use resolve_features::Stay;
 use tokens::Classes;
 
 // How much the statements so far bring: how many terms, how many statements stay and how many bytes they have, and how many are dropped.
@@ -33,27 +32,18 @@ pub struct Tally {
     pub dropped: usize,
 }
 
-// What the next statement makes of it, or a fault.
-#[derive(Clone, Copy)]
-pub enum Step {
-    Next(Tally),
-    Refused(u8),
-}
-
 // One more is dropped.
 fn note(tally: Tally, dropped: &mut [u8], index: usize) -> Tally
     requires { (index < 256) × (tally.dropped ≤ 256) }
     ensures { Noted tally index dropped.old dropped.new result }
 {
     Tally {
-        terms: tally.terms,
-        stays: tally.stays,
-        ground: tally.ground,
         dropped: print_writing::put(dropped, tally.dropped, index as u8),
+        ..tally
     }
 }
 
-// What a COVARIATE adds.
+// What a COVARIATE adds, or a fault.
 fn bring_terms(
     text: &[u8],
     classes: &Classes,
@@ -71,7 +61,7 @@ fn bring_terms(
     tally: Tally,
     terms: &mut [u32],
     dropped: &mut [u8],
-) -> Step
+) -> Result<Tally, Fault>
     requires { (classes.now ≡ class_table) × Stands block.now lists.now layout × LetsFit text.now lets.now n
         × OperandFits text.now parameters × OperandFits text.now covariates × SmallForms (modes_in effects) × (index < 256)
         × (tally.terms ≤ 4294967296) × (tally.dropped ≤ 256) }
@@ -97,15 +87,12 @@ fn bring_terms(
         op,
         terms,
         tally.terms,
-    ) {
-        Stay::Next(next) => Step::Next(Tally {
+    )? {
+        Some(next) => Ok(Tally {
             terms: next,
-            stays: tally.stays,
-            ground: tally.ground,
-            dropped: tally.dropped,
+            ..tally
         }),
-        Stay::Dropped => Step::Next(note(tally, dropped, index)),
-        Stay::Refused(number) => Step::Refused(number),
+        None => Ok(note(tally, dropped, index)),
     }
 }
 
@@ -125,7 +112,7 @@ fn bring_other(
     tally: Tally,
     dropped: &mut [u8],
     out: &mut [u8],
-) -> Step
+) -> Result<Tally, Fault>
     requires { (classes.now ≡ class_table) × (labels.now ≡ label_table) × (keys.now ≡ keyword_table)
         × Stands block.now lists.now layout × LetsFit text.now lets.now n
         × PartsFit text.now (apart (Statement.Feature feature)) × Short text.now feature × (is_covariate feature ≡ false) × (index < 256)
@@ -152,19 +139,17 @@ fn bring_other(
         tally.stays,
         out,
         tally.ground,
-    ) {
-        Stay::Next(next) => Step::Next(Tally {
-            terms: tally.terms,
+    )? {
+        Some(next) => Ok(Tally {
             stays: tally.stays + 1,
             ground: next,
-            dropped: tally.dropped,
+            ..tally
         }),
-        Stay::Dropped => Step::Next(note(tally, dropped, index)),
-        Stay::Refused(number) => Step::Refused(number),
+        None => Ok(note(tally, dropped, index)),
     }
 }
 
-// What the statement at an index adds.
+// What the statement at an index adds, or a fault.
 pub fn bring_one(
     text: &[u8],
     classes: &Classes,
@@ -181,7 +166,7 @@ pub fn bring_one(
     terms: &mut [u32],
     dropped: &mut [u8],
     out: &mut [u8],
-) -> Step
+) -> Result<Tally, Fault>
     requires { (classes.now ≡ class_table) × (labels.now ≡ label_table) × (keys.now ≡ keyword_table)
         × Stands block.now lists.now layout × LetsFit text.now lets.now n
         × Fit text.now statement × (index < 256)
@@ -195,7 +180,7 @@ pub fn bring_one(
         (statement_in text.now statement)) tally out.old out.new result }
 {
     match statement {
-        Statement::Let { .. } => Step::Next(tally),
+        Statement::Let { .. } => Ok(tally),
         Statement::Feature(feature) => match feature {
             Feature::Covariate {
                 optional,

@@ -14,8 +14,7 @@ use Rattle.resolving.specs.Builtins.{matching}
 use Rattle.resolving_laws.proofs.Fewness.{place-below}
 use Rattle.resolve_context.specs.declared.Layout.{Layout}
 use Rattle.resolve_context.specs.Lists.{found_as, names_in}
-use Rattle.resolve_context.specs.declared.Found.{Found}
-use Rattle.resolve_context.specs.declared.Found.TheVariants as found
+use Rattle.std.specs.Prelude as prelude
 use Rattle.resolve_context.proofs.Pairs.{names-length}
 use Rattle.resolve_context.proofs.Places.{found_at, found_nowhere}
 use Rattle.resolve_context.proofs.Meaning.{one_of, matching-is}
@@ -64,11 +63,11 @@ module _ (b l : List ℕ) (y : Layout) where
   abbrev parameters : List (List ℕ)
   parameters = names_in b l y.parameters
 
-  pub matches_nothing : {ws : List (List ℕ)} → ws ≡ [] → Matches b l y ws found.Nothing
+  pub matches_nothing : {ws : List (List ℕ)} → ws ≡ [] → Matches b l y ws prelude.None
   matches_nothing e = record { below = tt; same = sym e }
 
   -- a parameter that was found, if it is an IIV parameter too
-  module _ {x r : Found} {i : ℕ} {v : List ℕ} (told : x ≡ found.Place i) (word : v ≡ get_or parameters i [])
+  module _ {x r : prelude.Option ℕ} {i : ℕ} {v : List ℕ} (told : x ≡ prelude.Some i) (word : v ≡ get_or parameters i [])
       (looked : r ≡ found_as (place_in (same_bytes v) (names_in b l y.iiv))) where
     abbrev own : List ℕ
     own = get_or parameters i []
@@ -78,27 +77,27 @@ module _ (b l : List ℕ) (y : Layout) where
 
     kept-one : {t : Bool} → is_some place ≡ t → keep (is_iiv b l y) (parameter_at b l y x) ≡ cond t (own ∷ []) []
     kept-one e =
-        ap (λ (z : Found). keep (is_iiv b l y) (parameter_at b l y z)) told
+        ap (λ (z : prelude.Option ℕ). keep (is_iiv b l y) (parameter_at b l y z)) told
         ∙ ap (λ (t : Bool). cond t (own ∷ []) []) (any_place (same_bytes own) (names_in b l y.iiv) ∙ e)
 
     own-place : found_as place ≡ r
     own-place = sym (looked ∙ ap (λ (w : List ℕ). found_as (place_in (same_bytes w) (names_in b l y.iiv))) word)
 
-    pub if-there : {k : ℕ} → FoundBelow y.parameters.count x → r ≡ found.Place k
-        → Matches b l y (keep (is_iiv b l y) (parameter_at b l y x)) (found.Place i)
+    pub if-there : {k : ℕ} → FoundBelow y.parameters.count x → r ≡ prelude.Some k
+        → Matches b l y (keep (is_iiv b l y) (parameter_at b l y x)) (prelude.Some i)
     if-there {k} h e =
         record {
           below = subst (FoundBelow y.parameters.count) told h;
           same = sym (kept-one (ap is_some (found_at place k (own-place ∙ e))));
         }
 
-    pub if-absent : r ≡ found.Nothing → Matches b l y (keep (is_iiv b l y) (parameter_at b l y x)) found.Nothing
+    pub if-absent : r ≡ prelude.None → Matches b l y (keep (is_iiv b l y) (parameter_at b l y x)) prelude.None
     if-absent e = matches_nothing (kept-one (ap is_some (found_nowhere place (own-place ∙ e))))
 
   -- the match of a variable
-  pub match_found : {u v : List ℕ} {r : Found} → u ≡ v → r ≡ found_as (place_in (same_word u) parameters) → Matches b l y (matching parameters v) r
+  pub match_found : {u v : List ℕ} {r : prelude.Option ℕ} → u ≡ v → r ≡ found_as (place_in (same_word u) parameters) → Matches b l y (matching parameters v) r
   match_found {u} {v} {r} word looked =
-      subst₂ (λ (ws : List (List ℕ)) (f : Found). Matches b l y ws f) (sym (matching-is parameters v))
+      subst₂ (λ (ws : List (List ℕ)) (f : prelude.Option ℕ). Matches b l y ws f) (sym (matching-is parameters v))
       (sym (looked ∙ ap (λ (w : List ℕ). found_as (place_in (same_word w) parameters)) word))
       (by_place (place_in (same_word v) parameters) refl)
     where

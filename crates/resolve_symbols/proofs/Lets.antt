@@ -25,8 +25,8 @@ use Rattle.read_forms.specs.Items.{name_in, items_in}
 use Rattle.read_forms.specs.Fits.{InText, Listed}
 use Rattle.resolve_context.specs.Lists.{found_as}
 use Rattle.resolve_context.proofs.Places.{found_at, found_nowhere}
-use Rattle.resolve_context.specs.declared.Found.{Found}
-use Rattle.resolve_context.specs.declared.Found.TheVariants.{Place, Nothing}
+use Rattle.std.specs.Prelude as prelude
+use Rattle.std.specs.Prelude.{is_some}
 use Rattle.resolve_symbols.specs.Lets.{key_at, values_at, definition_at, definitions_in, last_let, has_key, LetsFit, LetPut}
 
 abbrev is_there : Option ℕ → Bool
@@ -48,10 +48,10 @@ module _ (s l w : List ℕ) where
   pub passed-more : {n k : ℕ} → Passed n k → 0 < k → same_word w (definition_at s l (k - 1)).key ≡ false → Passed n (k - 1)
   passed-more {n} {k} p h e = record { same = p.same ∙ last_more k h ∙ simp e; most = omega arith }
 
-  pub passed-found : {n k : ℕ} → Passed n k → 0 < k → same_word w (definition_at s l (k - 1)).key ≡ true → Place (k - 1) ≡ found_as (last_let s l n w)
+  pub passed-found : {n k : ℕ} → Passed n k → 0 < k → same_word w (definition_at s l (k - 1)).key ≡ true → prelude.Some (k - 1) ≡ found_as (last_let s l n w)
   passed-found {n} {k} p h e = let there : last_let s l k w ≡ some (k - 1) = last_more k h ∙ simp e in sym (ap found_as (p.same ∙ there))
 
-  pub passed-all : {n k : ℕ} → Passed n k → k ≤ 0 → Nothing ≡ found_as (last_let s l n w)
+  pub passed-all : {n k : ℕ} → Passed n k → k ≤ 0 → prelude.None ≡ found_as (last_let s l n w)
   unfolding last_let
   passed-all {n} {k} p h = let z : k ≡ 0 = omega arith in sym (ap found_as (p.same ∙ ap (λ (j : ℕ). last_let s l j w) z))
 
@@ -92,11 +92,19 @@ module _ (s l w : List ℕ) where
   pub has_one : (n k : ℕ) → last_let s l n w ≡ some k → true ≡ has_key (definitions_in s l n) w
   has_one n k e = sym (has_last n ∙ ap is_there e)
 
+  -- whether there is one, as the answer tells
+  pub has_told : (n : ℕ) → is_some (found_as (last_let s l n w)) ≡ has_key (definitions_in s l n) w
+  has_told n = told (last_let s l n w) ∙ sym (has_last n)
+    where
+      told : (o : Option ℕ) → is_some (found_as o) ≡ is_there o
+      told none = refl
+      told (some k) = refl
+
   -- what the answer tells
-  pub let_found : (n : ℕ) {k : ℕ} {r : Found} → r ≡ found_as (last_let s l n w) → r ≡ Place k → last_let s l n w ≡ some k
+  pub let_found : (n : ℕ) {k : ℕ} {r : prelude.Option ℕ} → r ≡ found_as (last_let s l n w) → r ≡ prelude.Some k → last_let s l n w ≡ some k
   let_found n {k} e f = found_at (last_let s l n w) k (sym e ∙ f)
 
-  pub no_let_found : (n : ℕ) {r : Found} → r ≡ found_as (last_let s l n w) → r ≡ Nothing → last_let s l n w ≡ none
+  pub no_let_found : (n : ℕ) {r : prelude.Option ℕ} → r ≡ found_as (last_let s l n w) → r ≡ prelude.None → last_let s l n w ≡ none
   no_let_found n e f = found_nowhere (last_let s l n w) (sym e ∙ f)
 
 -- one LET more is looked at before the others

@@ -13,8 +13,7 @@ use Rattle.resolve_context.specs.declared.Names.{Names}
 use Rattle.resolve_context.specs.declared.Layout.{Layout}
 use Rattle.resolve_context.specs.Kinds.{kind_as}
 use Rattle.resolve_context.specs.Lists.{list_at, names_in, kinds_in, variables_of, covariates_of}
-use Rattle.resolve_context.specs.declared.Found.{Found}
-use Rattle.resolve_context.specs.declared.Found.TheVariants as found
+use Rattle.std.specs.Prelude as prelude
 use Rattle.resolve_symbols.specs.declared.Roles.{Roles}
 use Rattle.resolve_symbols.specs.declared.Roles.TheVariants.{Every}
 use Rattle.resolve_symbols.specs.declared.Listing.{Listing}
@@ -53,9 +52,9 @@ module _ (b l : List ℕ) (y : Layout) where
   is_iiv v = any (same_bytes v) (names_in b l y.iiv)
 
   -- the parameter at a place that was found
-  abbrev pub parameter_at : Found → List (List ℕ)
-  parameter_at (found.Place i) = entry_at y.parameters i ∷ []
-  parameter_at found.Nothing = []
+  abbrev pub parameter_at : prelude.Option ℕ → List (List ℕ)
+  parameter_at (prelude.Some i) = entry_at y.parameters i ∷ []
+  parameter_at prelude.None = []
 
   abbrev pub from_template : Roles → ℕ → List (List ℕ)
   from_template r i = from_binding (names_in b l y.parameters) (of_roles r) (binding_at i)
@@ -74,12 +73,12 @@ brought_by f zero = []
 brought_by f (suc n) = brought_by f n ++ f n
 
 -- a place that was found is one of so many
-abbrev pub FoundBelow : ℕ → Found → Type 0
-FoundBelow n (found.Place i) = i < n
-FoundBelow n found.Nothing = Unit {0}
+abbrev pub FoundBelow : ℕ → prelude.Option ℕ → Type 0
+FoundBelow n (prelude.Some i) = i < n
+FoundBelow n prelude.None = Unit {0}
 
 -- a place of a parameter, or none, for words that are that parameter or none
-pub record Matches (b l : List ℕ) (y : Layout) (words : List (List ℕ)) (r : Found) : Type 0 where
+pub record Matches (b l : List ℕ) (y : Layout) (words : List (List ℕ)) (r : prelude.Option ℕ) : Type 0 where
   pub below : FoundBelow y.parameters.count r
   pub same : parameter_at b l y r ≡ words
 

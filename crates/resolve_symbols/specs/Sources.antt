@@ -16,8 +16,7 @@ use Rattle.resolve_symbols.specs.declared.Listing.{Listing}
 use Rattle.resolve_symbols.specs.declared.Listing.TheVariants.{Iiv, Template, TemplateIiv, Nothing, Declared, Covariates}
 use Rattle.resolve_symbols.specs.declared.Source.{Source}
 use Rattle.resolve_symbols.specs.declared.Source.TheVariants.{Values, Given}
-use Rattle.resolve_symbols.specs.declared.Looked.{Looked}
-use Rattle.resolve_symbols.specs.declared.Looked.TheVariants.{Names, Unknown}
+use Rattle.std.specs.Prelude as prelude
 
 -- whether a role is one of those that a built-in takes
 abbrev pub role_of : Roles → List ℕ → Bool
@@ -51,18 +50,18 @@ source_list c s (Values is) = map (λ i. i.name.spelling) (items_in s is)
 source_list c s (Given x) = listing_names c x
 
 -- the names of a symbol, or none
-abbrev pub looked_as : Context → List ℕ → Looked → Option (List (List ℕ))
-looked_as c s Unknown = none
-looked_as c s (Names x) = some (source_list c s x)
+abbrev pub looked_as : Context → List ℕ → prelude.Option Source → Option (List (List ℕ))
+looked_as c s prelude.None = none
+looked_as c s (prelude.Some x) = some (source_list c s x)
 
 -- values can be read again
 abbrev pub SourceFits : List ℕ → Source → Type 0
 SourceFits s (Values is) = Listed s is
 SourceFits s (Given x) = Unit {0}
 
-abbrev pub LookedFits : List ℕ → Looked → Type 0
-LookedFits s Unknown = Unit {0}
-LookedFits s (Names x) = SourceFits s x
+abbrev pub LookedFits : List ℕ → prelude.Option Source → Type 0
+LookedFits s prelude.None = Unit {0}
+LookedFits s (prelude.Some x) = SourceFits s x
 
 abbrev pub is_some : {A : Type 0} → Option A → Bool
 is_some none = false
@@ -74,10 +73,10 @@ pub record Marked (c : Context) (y : Layout) : Type 0 where
   pub declares : y.declares ≡ is_some c.block
 
 -- in every context with the layout's marks, an answer's names are these
-abbrev pub Means : List ℕ → Layout → Looked → (Context → Option (List (List ℕ))) → Type 0
+abbrev pub Means : List ℕ → Layout → prelude.Option Source → (Context → Option (List (List ℕ))) → Type 0
 Means s y r f = (c : Context) → Marked c y → looked_as c s r ≡ f c
 
 -- so they are in every text: a built-in has nothing of it
-pub record MeansAnywhere (y : Layout) (r : Looked) (f : Context → Option (List (List ℕ))) : Type 0 where
+pub record MeansAnywhere (y : Layout) (r : prelude.Option Source) (f : Context → Option (List (List ℕ))) : Type 0 where
   pub fits : (s : List ℕ) → LookedFits s r
   pub means : (s : List ℕ) → Means s y r f

@@ -2,7 +2,7 @@
 // is a source of names; each of its names is a pair into the text or into the context's block before it becomes an index (`resolve_operands`).
 #![tactic(auto)]
 
-ghost use Rattle.std.specs.Prelude.{◌≡◌, cond, map, ◌+◌, ◌*◌, ◌≤◌, ◌<◌, min, length};
+ghost use Rattle.std.specs.Prelude.{◌≡◌, cond, map, ◌+◌, ◌*◌, ◌≤◌, ◌<◌, length, Some, None};
 ghost use Rattle.std.proofs.Math.Option.{some};
 ghost use Rattle.labels.specs.Word.{same_word};
 ghost use Rattle.text.specs.Lists.{any, keep, same_bytes};
@@ -17,7 +17,7 @@ ghost use Rattle.resolve_symbols.specs.Sources.{role_of, LookedFits, Means, Mean
 ghost use Rattle.resolve_symbols.specs.Brings.{list_of, is_iiv, parameter_at, from_template, brings, FoundBelow, Matches, Yields};
 
 use read_forms::{Items, Name};
-use resolve_context::{Found, Kind, Layout, Names, name_at, pair_at, same_bytes};
+use resolve_context::{Kind, Layout, Names, name_at, pair_at, same_bytes};
 use tokens::Cursor;
 
 // The roles of a template that a built-in takes.
@@ -48,28 +48,12 @@ pub enum Source {
     Given(Listing),
 }
 
-#[derive(Clone, Copy)]
-pub enum Looked {
-    Names(Source),
-    Unknown,
-}
-
 // A name before it is an index: a pair into the text or into the context's block, by its mark; or nothing, where an entry brings none.
 #[derive(Clone, Copy)]
 pub enum Named {
     Text(Name),
     Block(Name),
     Nothing,
-}
-
-// The lesser of two numbers.
-fn least(a: usize, b: usize) -> usize
-    ensures { result ≡ min a b }
-{
-    if b < a {
-        return b;
-    }
-    a
 }
 
 // Puts a LET behind the first n.
@@ -80,7 +64,7 @@ pub fn put_let(text: &[u8], lets: &mut [u32], n: usize, name: Name, values: Item
         (definition (name_in text.now name) (items_in text.now values)) }
 {
     let first = values.first;
-    let cursor = least(first.at, text.len());
+    let cursor = first.at.min(text.len());
     let at = 4 * n;
     lets[at] = name.offset as u32;
     lets[at + 1] = name.length as u32;
@@ -112,18 +96,16 @@ fn values_at(lets: &[u32], k: usize) -> Items
 }
 
 // The last of the first n LETs whose key the word is, ignoring case.
-fn find_let(text: &[u8], lets: &[u32], n: usize, word: &[u8]) -> Found
+fn find_let(text: &[u8], lets: &[u32], n: usize, word: &[u8]) -> Option<usize>
     requires { LetsFit text.now lets.now n }
     ensures { result ≡ found_as (last_let text.now lets.now n word.now) }
 {
-    let mut left = n;
-    while 0 < left {
-        left -= 1;
-        if labels::same_word(word, key_at(text, lets, left)) {
-            return Found::Place(left);
+    for k in (0..n).rev() {
+        if labels::same_word(word, key_at(text, lets, k)) {
+            return Some(k);
         }
     }
-    Found::Nothing
+    None
 }
 
 // Whether one of the first n LETs has the key, ignoring case.
@@ -131,32 +113,36 @@ pub fn has_let(text: &[u8], lets: &[u32], n: usize, key: Name) -> bool
     requires { LetsFit text.now lets.now n × InText text.now key }
     ensures { result ≡ has_key (definitions_in text.now lets.now n) (name_in text.now key).spelling }
 {
-    match find_let(text, lets, n, read_forms::spelling(text, key)) {
-        Found::Place(k) => true,
-        Found::Nothing => false,
-    }
+    find_let(text, lets, n, read_forms::spelling(text, key)).is_some()
 }
 
 // A built-in of this name, if what it needs is there; for any other word, the other answer.
-fn if_word(word: &[u8], name: &[u8], there: bool, listing: Listing, other: Looked) -> Looked
-    ensures { result ≡ cond (same_word word.now name.now) (cond there (Looked.Names (Source.Given listing)) Looked.Unknown) other }
+fn if_word(
+    word: &[u8],
+    name: &[u8],
+    there: bool,
+    listing: Listing,
+    other: Option<Source>,
+) -> Option<Source>
+    ensures { result ≡ cond (same_word word.now name.now) (cond there (Some (Source.Given listing)) None) other }
 {
     if !labels::same_word(word, name) {
         return other;
     }
     if there {
-        return Looked::Names(Source::Given(listing));
+        Some(Source::Given(listing))
+    } else {
+        None
     }
-    Looked::Unknown
 }
 
 // A built-in by its name. The tests are made from the last to the first, as no two names are the same.
-fn builtin(layout: Layout, word: &[u8]) -> Looked
+fn builtin(layout: Layout, word: &[u8]) -> Option<Source>
     ensures { MeansAnywhere layout result (λ c. builtins.builtin c word.now) }
 {
     let block = layout.declares;
     let template = layout.templated;
-    let r = Looked::Unknown;
+    let r = None;
     let r = if_word(
         word,
         b"CATEGORICAL",
@@ -207,15 +193,15 @@ fn builtin(layout: Layout, word: &[u8]) -> Looked
 }
 
 // What a symbol stands for: the last LET of that key, or the built-in.
-pub fn look_up(text: &[u8], lets: &[u32], n: usize, layout: Layout, word: &[u8]) -> Looked
+pub fn look_up(text: &[u8], lets: &[u32], n: usize, layout: Layout, word: &[u8]) -> Option<Source>
     requires { LetsFit text.now lets.now n }
     ensures { LookedFits text.now result × Means text.now layout result
         (λ c. look_up c (map some (definitions_in text.now lets.now n)) word.now) }
 {
-    let Found::Place(k) = find_let(text, lets, n, word) else {
+    let Some(k) = find_let(text, lets, n, word) else {
         return builtin(layout, word);
     };
-    Looked::Names(Source::Values(values_at(lets, k)))
+    Some(Source::Values(values_at(lets, k)))
 }
 
 // Whether a role is one of a built-in's. Roles are equal byte for byte.
@@ -257,7 +243,13 @@ fn has_role(roles: Roles, role: &[u8]) -> bool
 }
 
 // The place of the parameter that a variable of the template matches, if its role is one of these.
-fn of_template(block: &[u8], lists: &[u32], layout: Layout, roles: Roles, index: usize) -> Found
+fn of_template(
+    block: &[u8],
+    lists: &[u32],
+    layout: Layout,
+    roles: Roles,
+    index: usize,
+) -> Option<usize>
     requires { Stands block.now lists.now layout × (index < layout.template.count) }
     ensures { Matches block.now lists.now layout
         (from_template block.now lists.now layout roles index) result }
@@ -265,36 +257,32 @@ fn of_template(block: &[u8], lists: &[u32], layout: Layout, roles: Roles, index:
     let template = layout.template;
     let role = name_at(block, lists, template, index);
     if !has_role(roles, role) {
-        return Found::Nothing;
+        return None;
     }
     let variable = name_at(block, lists, resolve_context::variables_of(template), index);
     resolve_context::match_of(block, lists, layout.parameters, variable)
 }
 
 // The place of a parameter that was found, if it is an IIV parameter too.
-fn if_iiv(block: &[u8], lists: &[u32], layout: Layout, found: Found) -> Found
+fn if_iiv(block: &[u8], lists: &[u32], layout: Layout, found: Option<usize>) -> Option<usize>
     requires { Stands block.now lists.now layout × FoundBelow layout.parameters.count found }
     ensures { Matches block.now lists.now layout
         (keep (is_iiv block.now lists.now layout) (parameter_at block.now lists.now layout found)) result }
 {
-    let Found::Place(place) = found else {
-        return Found::Nothing;
-    };
+    let place = found?;
     let name = name_at(block, lists, layout.parameters, place);
-    match resolve_context::index_of(block, lists, layout.iiv, name) {
-        Found::Place(index) => Found::Place(place),
-        Found::Nothing => Found::Nothing,
-    }
+    resolve_context::index_of(block, lists, layout.iiv, name)?;
+    Some(place)
 }
 
 // The name of a parameter that was found.
-fn parameter(block: &[u8], lists: &[u32], layout: Layout, found: Found) -> Named
+fn parameter(block: &[u8], lists: &[u32], layout: Layout, found: Option<usize>) -> Named
     requires { Stands block.now lists.now layout × FoundBelow layout.parameters.count found }
     ensures { Yields block.now (parameter_at block.now lists.now layout found) result }
 {
     match found {
-        Found::Place(place) => Named::Block(pair_at(block, lists, layout.parameters, place)),
-        Found::Nothing => Named::Nothing,
+        Some(place) => Named::Block(pair_at(block, lists, layout.parameters, place)),
+        None => Named::Nothing,
     }
 }
 
@@ -304,7 +292,7 @@ fn of_kind(block: &[u8], lists: &[u32], layout: Layout, kind: Kind, index: usize
     ensures { Yields block.now (brings block.now lists.now layout (Listing.Declared kind) index) result }
 {
     let declared = layout.declared;
-    if resolve_context::same_kind(kind, resolve_context::kind_at(lists, declared, index)) {
+    if kind == resolve_context::kind_at(lists, declared, index) {
         return Named::Block(pair_at(block, lists, declared, index));
     }
     Named::Nothing

@@ -1,5 +1,6 @@
 -- What a text's statements bring, with all that was known on the way: the statements, what their symbols mean, and the ground statements of those
 -- that stay. And what is answered where there is a fault: the definition's refusal.
+use Rattle.read_forms.specs.Faults.{refused_by}
 use Rattle.std.specs.Prelude.{ℕ, ◌≤◌, ◌<◌, true, List, ◌≡◌, length}
 use Rattle.reading.specs.Statement.{Statement}
 use Rattle.reading.specs.Answer.{accepted, refused}
@@ -13,8 +14,8 @@ use Rattle.resolving.specs.Handed.{is_handed, handed_context, resolve_handed}
 use Rattle.resolve_operands.specs.Entries.{meaning_in}
 use Rattle.resolve_statements.specs.declared.Tally.{Tally}
 use Rattle.resolve_statements.specs.Tallies.{AllBrings}
-use Rattle.resolve_taking.specs.declared.Taken.{Taken}
-use Rattle.resolve_taking.specs.declared.Taken.TheVariants as taken
+use Rattle.read_forms.specs.declared.Refusal.{Refusal}
+use Rattle.std.specs.Prelude as prelude
 use Rattle.resolve_taking.specs.Collected.{CollectedAll}
 
 pub record TextBrings (limit : ℕ) (s b l : List ℕ) (ts ds out : List ℕ) (ts' ds' out' : List ℕ) (u : Tally) : Type 0 where
@@ -29,7 +30,7 @@ pub record TextBrings (limit : ℕ) (s b l : List ℕ) (ts ds out : List ℕ) (t
   pub text : Written out 0 (rest_of 0 (gather staying brought.what)) out' u.ground
 
 -- A text has at most 256 statements, so 1,024 numbers have room for its LETs.
-unfoldable pub TakenAs : ℕ → List ℕ → List ℕ → List ℕ → List ℕ → List ℕ → List ℕ → List ℕ → List ℕ → List ℕ → List ℕ → Taken → Type 0
-TakenAs limit s b l lets ts ds out ts' ds' out' (taken.Tally u) = TextBrings limit s b l ts ds out ts' ds' out' u
-TakenAs limit s b l lets ts ds out ts' ds' out' (taken.Refused r) = resolve_handed limit b l s ≡ refused r.number r.place
-TakenAs limit s b l lets ts ds out ts' ds' out' taken.Full = length lets < 1024
+unfoldable pub TakenAs : ℕ → List ℕ → List ℕ → List ℕ → List ℕ → List ℕ → List ℕ → List ℕ → List ℕ → List ℕ → List ℕ → prelude.Option (prelude.Result Tally Refusal) → Type 0
+TakenAs limit s b l lets ts ds out ts' ds' out' (prelude.Some (prelude.Ok u)) = TextBrings limit s b l ts ds out ts' ds' out' u
+TakenAs limit s b l lets ts ds out ts' ds' out' (prelude.Some (prelude.Err r)) = resolve_handed limit b l s ≡ refused_by r
+TakenAs limit s b l lets ts ds out ts' ds' out' prelude.None = length lets < 1024

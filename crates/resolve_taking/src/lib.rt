@@ -10,20 +10,10 @@ ghost use Rattle.resolve_taking.specs.Taken.{TakenAs};
 ghost use Rattle.resolve_taking.specs.Again.{end_after, start_after, AgainAs};
 
 use labels::{Keywords, Labels};
-use read_forms::{Feature, Modes, Refusal, Statement};
+use read_forms::{Fault, Feature, Modes, Refusal, Statement};
 use read_space::Form;
-use read_statements::NextRead;
-use resolve_context::Checked;
-use resolve_statements::{Step, Tally};
+use resolve_statements::Tally;
 use tokens::{Classes, Cursor};
-
-// What all bring; or why the text or its context is refused; or that there are more LETs than there is room for.
-#[derive(Clone, Copy)]
-pub enum Taken {
-    Tally(Tally),
-    Refused(Refusal),
-    Full,
-}
 
 // A statement, and the cursor from which the next one that is not kept is read.
 #[derive(Clone, Copy)]
@@ -34,11 +24,6 @@ pub struct Again {
 
 // So many statements are kept.
 pub const FEW: usize = 32;
-
-// The faults that are found here, by their numbers.
-pub const WRONG_CONTEXT: u8 = 12;
-
-pub const SECOND_LET: u8 = 13;
 
 fn no_forms() -> [Form; 32]
     ensures { length result ≡ 32 }
@@ -102,15 +87,15 @@ fn statement_at(
         };
     }
     match read_statements::next_statement(text, classes, labels, keys, later, index, limit) {
-        NextRead::Statement(again, next) => Again {
-            statement: again,
-            next,
+        Ok(Some(again)) => Again {
+            statement: again.statement,
+            next: again.cursor,
         },
-        NextRead::End => Again {
+        Ok(None) => Again {
             statement,
             next: later,
         },
-        NextRead::Refused(_) => Again {
+        Err(_) => Again {
             statement,
             next: later,
         },
@@ -119,7 +104,8 @@ fn statement_at(
 
 // What the statements of a text bring: the terms, the indexes of those that are dropped, and the ground statements of those that stay. The text's
 // own faults come first, then its context's, then a second LET of a key, then those of its statements in order. So the text is read to its end before
-// anything is made of a statement; its LETs are looked for, from the first one to the last; and then each statement is taken.
+// anything is made of a statement; its LETs are looked for, from the first one to the last; and then each statement is taken. None, where there are more
+// LETs than there is room for.
 pub fn take_text(
     text: &[u8],
     classes: &Classes,
@@ -132,7 +118,7 @@ pub fn take_text(
     terms: &mut [u32],
     dropped: &mut [u8],
     out: &mut [u8],
-) -> Taken
+) -> Option<Result<Tally, Refusal>>
     requires { (classes.now ≡ class_table) × (labels.now ≡ label_table) × (keys.now ≡ keyword_table) × Admitted limit text.now }
     ensures { TakenAs limit text.now block.now lists.now lets.old
         terms.old dropped.old out.old terms.new dropped.new out.new result }
@@ -147,55 +133,52 @@ pub fn take_text(
     let mut later = cur;
     loop {
         match read_statements::next_statement(text, classes, labels, keys, cur, count, limit) {
-            NextRead::Statement(statement, after) => {
-                end = lets_end(statement, count, end);
+            Ok(Some(next)) => {
+                end = lets_end(next.statement, count, end);
                 if count < FEW {
-                    forms[count] = Form { statement };
-                    later = after;
+                    forms[count] = Form {
+                        statement: next.statement,
+                    };
+                    later = next.cursor;
                     start = lets_start(count, start, end);
                 }
-                cur = after;
+                cur = next.cursor;
                 count += 1;
             }
-            NextRead::End => break,
-            NextRead::Refused(r) => {
+            Ok(None) => break,
+            Err(r) => {
                 let refusal = read_statements::earliest(text, classes, r);
-                return Taken::Refused(refusal);
+                return Some(Err(refusal));
             }
         }
     }
-    let Checked::Context(layout) = resolve_context::check(block, classes, lists) else {
-        return Taken::Refused(Refusal {
-            number: WRONG_CONTEXT,
+    let Some(layout) = resolve_context::check(block, classes, lists) else {
+        return Some(Err(Refusal {
+            fault: Fault::WrongContext,
             place: 0,
-        });
+        }));
     };
     let mut n = 0;
-    let mut i = start;
     let mut from = later;
-    while i < end {
+    for i in start..end {
         let again = statement_at(text, classes, labels, keys, forms[slot(i)], from, i, limit);
         let statement = again.statement;
+        from = again.next;
         match statement {
             Statement::Let { name, values } => {
                 if resolve_symbols::has_let(text, lets, n, name) {
-                    return Taken::Refused(Refusal {
-                        number: SECOND_LET,
+                    return Some(Err(Refusal {
+                        fault: Fault::SecondLet,
                         place: i,
-                    });
+                    }));
                 }
                 if lets.len() < 4 * n + 4 {
-                    return Taken::Full;
+                    return None;
                 }
                 resolve_symbols::put_let(text, lets, n, name, values);
                 n += 1;
-                from = again.next;
-                i += 1;
             }
-            Statement::Feature(_) => {
-                from = again.next;
-                i += 1;
-            }
+            Statement::Feature(_) => {}
         }
     }
     let mut tally = Tally {
@@ -204,21 +187,19 @@ pub fn take_text(
         ground: 0,
         dropped: 0,
     };
-    let mut k = 0;
-    while k < count {
+    for k in 0..count {
         let again = statement_at(text, classes, labels, keys, forms[slot(k)], later, k, limit);
         let statement = again.statement;
         match resolve_statements::bring_one(
             text, classes, labels, keys, block, lists, layout, lets, n, k, statement, tally, terms,
             dropped, out,
         ) {
-            Step::Next(next) => {
+            Ok(next) => {
                 tally = next;
                 later = again.next;
-                k += 1;
             }
-            Step::Refused(number) => return Taken::Refused(Refusal { number, place: k }),
+            Err(fault) => return Some(Err(Refusal { fault, place: k })),
         }
     }
-    Taken::Tally(tally)
+    Some(Ok(tally))
 }

@@ -6,12 +6,12 @@ use Rattle.text.specs.Lists.{gather}
 use Rattle.resolving.specs.Context.{Context, CovariateKind, kind_at}
 use Rattle.resolving.specs.Effects.{forms_of, operator_number, optional_number}
 use Rattle.resolve_context.specs.Kinds.{kind_as}
-use Rattle.resolve_terms.specs.declared.SomeKind.{SomeKind}
-use Rattle.resolve_terms.specs.declared.SomeKind.TheVariants.{Undeclared, Declared}
+use Rattle.resolve_context.specs.declared.Kind.{Kind}
+use Rattle.std.specs.Prelude as prelude
 
-abbrev pub kind_in : SomeKind → Option CovariateKind
-kind_in Undeclared = none
-kind_in (Declared k) = some (kind_as k)
+abbrev pub kind_in : prelude.Option Kind → Option CovariateKind
+kind_in prelude.None = none
+kind_in (prelude.Some k) = some (kind_as k)
 
 -- what all effects of a statement have in common
 abbrev pub head_number : ℕ → Bool → Operator → Bool → ℕ

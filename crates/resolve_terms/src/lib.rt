@@ -17,13 +17,6 @@ ghost use Rattle.resolve_terms.specs.Terms.{kind_in, form_terms, covariate_terms
 use read_forms::Modes;
 use resolve_context::{Kind, Layout};
 
-// The kind of a covariate, where there is a declaration block.
-#[derive(Clone, Copy)]
-pub enum SomeKind {
-    Undeclared,
-    Declared(Kind),
-}
-
 // One term, where there is room for it, and the index behind it.
 fn put_term(terms: &mut [u32], at: usize, term: u32) -> usize
     requires { Room at (term ∷ []) }
@@ -38,17 +31,17 @@ fn put_term(terms: &mut [u32], at: usize, term: u32) -> usize
 }
 
 // The forms of effect `*`, packed: without a block as for a continuous covariate.
-fn every_form(kind: SomeKind) -> u32
+fn every_form(kind: Option<Kind>) -> u32
     ensures { places result ≡ every_form (kind_in kind) }
 {
     match kind {
-        SomeKind::Undeclared => resolve_context::every_form(Kind::Continuous),
-        SomeKind::Declared(kind) => resolve_context::every_form(kind),
+        None => resolve_context::every_form(Kind::Continuous),
+        Some(kind) => resolve_context::every_form(kind),
     }
 }
 
 // The forms of a COVARIATE on a covariate of a kind, packed.
-fn forms_of(effects: Modes, kind: SomeKind) -> u32
+fn forms_of(effects: Modes, kind: Option<Kind>) -> u32
     ensures { places result ≡ forms_of (modes_in effects) (kind_in kind) }
 {
     match effects {
@@ -58,17 +51,17 @@ fn forms_of(effects: Modes, kind: SomeKind) -> u32
 }
 
 // Whether a form suits a covariate: without a block all do.
-fn suits(kind: SomeKind, form: u32) -> bool
+fn suits(kind: Option<Kind>, form: u32) -> bool
     ensures { result ≡ suits·spec (kind_in kind) form }
 {
     match kind {
-        SomeKind::Undeclared => true,
-        SomeKind::Declared(kind) => resolve_context::suits(kind, form),
+        None => true,
+        Some(kind) => resolve_context::suits(kind, form),
     }
 }
 
 // Whether one of the forms is against the kind.
-fn has_against(kind: SomeKind, packed: u32) -> bool
+fn has_against(kind: Option<Kind>, packed: u32) -> bool
     ensures { result ≡ any (λ f. not (suits·spec (kind_in kind) f)) (places packed) }
 {
     let mut left = packed;
@@ -95,15 +88,15 @@ fn put_forms(terms: &mut [u32], at: usize, head: u32, packed: u32) -> usize
     next
 }
 
-// The kind of the covariate at an index.
-fn kind_of(block: &[u8], lists: &[u32], layout: Layout, index: usize) -> SomeKind
+// The kind of the covariate at an index, where there is a declaration block.
+fn kind_of(block: &[u8], lists: &[u32], layout: Layout, index: usize) -> Option<Kind>
     requires { Stands block.now lists.now layout × (index < (covariates_of layout).count) }
     ensures { kind_in result ≡ kind_at (handed_context block.now lists.now) index }
 {
     if !layout.declares {
-        return SomeKind::Undeclared;
+        return None;
     }
-    SomeKind::Declared(resolve_context::kind_at(lists, layout.declared, index))
+    Some(resolve_context::kind_at(lists, layout.declared, index))
 }
 
 // Whether a form is against the kind of one of the covariates.
@@ -117,13 +110,11 @@ pub fn any_against(
     requires { Stands block.now lists.now layout × Indexes (covariates_of layout).count covariates.now }
     ensures { result ≡ any (against (handed_context block.now lists.now) (modes_in effects)) covariates.now }
 {
-    let mut i = 0;
-    while i < covariates.len() {
-        let kind = kind_of(block, lists, layout, covariates[i] as usize);
+    for covariate in covariates {
+        let kind = kind_of(block, lists, layout, *covariate as usize);
         if has_against(kind, forms_of(effects, kind)) {
             return true;
         }
-        i += 1;
     }
     false
 }
@@ -145,14 +136,11 @@ fn put_covariates(
         (covariate_terms (handed_context block.now lists.now) (modes_in effects) head covariates.now)
         terms.new result }
 {
-    let mut i = 0;
     let mut next = at;
-    while i < covariates.len() {
-        let index = covariates[i];
-        let kind = kind_of(block, lists, layout, index as usize);
+    for covariate in covariates {
+        let kind = kind_of(block, lists, layout, *covariate as usize);
         let packed = forms_of(effects, kind);
-        next = put_forms(terms, next, head + 32 * index as u32, packed);
-        i += 1;
+        next = put_forms(terms, next, head + 32 * *covariate as u32, packed);
     }
     next
 }
@@ -176,12 +164,10 @@ pub fn put_terms(
         (parameter_terms (handed_context block.now lists.now) (modes_in effects) head parameters.now covariates.now)
         terms.new result }
 {
-    let mut i = 0;
     let mut next = at;
-    while i < parameters.len() {
-        let own = head + 2048 * parameters[i] as u32;
+    for parameter in parameters {
+        let own = head + 2048 * *parameter as u32;
         next = put_covariates(block, lists, layout, covariates, effects, own, terms, next);
-        i += 1;
     }
     next
 }

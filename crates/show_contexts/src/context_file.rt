@@ -7,73 +7,68 @@
 //     columns WT SEX
 //
 // From it come the block of name bytes and the run of numbers that Resolve takes. What is no name, and what is too much, is left to Resolve.
+use crate::context_names::LISTS;
 pub use crate::entries::Taken;
-use crate::entries::take_list;
-use crate::rows::{Row, find_row};
-use crate::{entries, rows};
+use crate::rows::{self, Row};
 
 // What can be wrong with a context file.
-pub const FINE: u8 = 0;
+#[derive(Clone, Copy)]
+pub enum Cause {
+    UnknownRow,
+    SecondRow,
+    NoVariable,
+    NoKind,
+    UnknownKind,
+    TooMuch,
+}
 
-pub const UNKNOWN_ROW: u8 = 1;
+// What is wrong with a context file, and where.
+#[derive(Clone, Copy)]
+pub struct Malformed {
+    pub cause: Cause,
+    pub place: usize,
+}
 
-pub const SECOND_ROW: u8 = 2;
-
-pub const NO_VARIABLE: u8 = 3;
-
-pub const NO_KIND: u8 = 4;
-
-pub const UNKNOWN_KIND: u8 = 5;
-
-pub const TOO_MUCH: u8 = 6;
+impl Cause {
+    pub fn at(self, place: usize) -> Malformed {
+        Malformed { cause: self, place }
+    }
+}
 
 // Whether a row may stand where it does.
-fn check_row(file: &[u8], row: Row) -> u8 {
-    if !row.there {
-        return FINE;
+fn check_row(file: &[u8], row: Row) -> Result<(), Malformed> {
+    let place = row.word.from;
+    let Some(list) = row.list else {
+        return Err(Cause::UnknownRow.at(place));
+    };
+    if let Some(first) = rows::find_row(file, list)
+        && first.word.from < place
+    {
+        return Err(Cause::SecondRow.at(place));
     }
-    if 5 <= row.list {
-        return UNKNOWN_ROW;
-    }
-    if find_row(file, row.list) < row.start {
-        return SECOND_ROW;
-    }
-    FINE
+    Ok(())
 }
 
 // Whether all rows may stand where they do; or the first that may not.
-fn check_rows(file: &[u8]) -> Taken {
-    let mut at = 0;
-    while at < file.len() {
-        let row = rows::row_at(file, at);
-        let cause = check_row(file, row);
-        if cause != FINE {
-            return entries::wrong(cause, row.start);
+fn check_rows(file: &[u8]) -> Result<(), Malformed> {
+    for line in rows::lines_of(file) {
+        if let Some(row) = line {
+            check_row(file, row)?;
         }
-        if row.next <= at {
-            return entries::wrong(TOO_MUCH, at);
-        }
-        at = row.next;
     }
-    entries::none_taken()
+    Ok(())
 }
 
-// The lists in the order of the run, behind five counts and two marks.
-fn take_lists(file: &[u8], block: &mut [u8], run: &mut [u32]) -> Taken {
-    let mut taken = entries::none_taken();
-    let mut list = 0;
-    while list < 5 {
-        taken = take_list(file, list, block, run, taken);
-        list += 1;
+// The context of a file, for which there are a block and a run; or what is wrong with it.
+pub fn read_context<'a>(
+    file: &[u8],
+    block: &'a mut [u8],
+    run: &'a mut [u32],
+) -> Result<Taken<'a>, Malformed> {
+    check_rows(file)?;
+    let mut taken = Taken::new(block, run);
+    for list in LISTS {
+        taken.take_list(file, list)?;
     }
-    taken
-}
-
-// The context of a file: how many bytes of the block and how many numbers of the run it has, or what is wrong and where.
-pub fn read_context(file: &[u8], block: &mut [u8], run: &mut [u32]) -> Taken {
-    let checked = check_rows(file);
-    if checked.cause != FINE {
-        return checked;
-    }
-    take_lists(file, block, run)
+    Ok(taken)
 }

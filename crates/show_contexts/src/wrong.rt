@@ -1,187 +1,144 @@
 // The cause for which a context is refused: too many bytes, too many entries, or an entry that is no name.
-use crate::context_names::Pair;
-use crate::{context_names, rows};
-use show_pages::{pages, places, strange};
+use crate::context_names::{Context, List};
+use crate::rows;
+use show_pages::pages::Page;
+use show_pages::{places, strange};
 use show_texts::scenes;
 
 // What can be wrong with a name.
-const FINE: u8 = 0;
-
-const EMPTY: u8 = 1;
-
-const LONG: u8 = 2;
-
-const NO_NAME: u8 = 3;
-
-// The lists in the order in which they are checked; the variables of a template come behind its roles.
-const VARIABLES: usize = 5;
-
-fn checked_list(turn: usize) -> usize {
-    match turn {
-        0 => context_names::PARAMETERS,
-        1 => context_names::IIV,
-        2 => context_names::TEMPLATE,
-        3 => VARIABLES,
-        4 => context_names::DECLARED,
-        _ => context_names::COLUMNS,
-    }
+#[derive(Clone, Copy)]
+enum Fault {
+    Empty,
+    Long,
+    NoName,
 }
 
-// The list whose row has the entries.
-fn row_of(list: usize) -> usize {
-    if list == VARIABLES {
-        return context_names::TEMPLATE;
-    }
-    list
+// What is checked of a context: the names of a list, or the variables of a template.
+#[derive(Clone, Copy)]
+enum Names {
+    Of(List),
+    Variables,
 }
 
-fn pair_at(lists: &[u32], list: usize, index: usize) -> Pair {
-    if list == VARIABLES {
-        return context_names::variable_at(lists, index);
+// In the order in which they are checked.
+const CHECKED: [Names; 6] = [
+    Names::Of(List::Parameters),
+    Names::Of(List::Iiv),
+    Names::Of(List::Template),
+    Names::Variables,
+    Names::Of(List::Declared),
+    Names::Of(List::Columns),
+];
+
+impl Names {
+    // The list whose row has the entries.
+    fn list(self) -> List {
+        match self {
+            Names::Of(list) => list,
+            Names::Variables => List::Template,
+        }
     }
-    context_names::name_at(lists, list, index)
+
+    fn name<'a>(self, context: Context<'a>, index: usize) -> &'a [u8] {
+        match self {
+            Names::Of(list) => context.name(list, index),
+            Names::Variables => context.variable(index),
+        }
+    }
 }
 
 // Whether all the bytes together are one word or one number.
 fn is_name(name: &[u8]) -> bool {
     let token = scenes::token_at(name, 0);
-    let after = token.next;
-    if tokens::NUMBER < token.kind {
-        return false;
-    }
-    if token.start != 0 {
-        return false;
-    }
-    after.at == name.len()
+    token.kind <= tokens::NUMBER && token.start == 0 && token.next.at == name.len()
 }
 
 // What is wrong with a name of the block.
-fn wrong_with(block: &[u8], pair: Pair) -> u8 {
-    let start = pair.offset;
-    let end = context_names::end_of(pair);
-    if end <= start {
-        return EMPTY;
+fn wrong_with(name: &[u8]) -> Option<Fault> {
+    if name.is_empty() {
+        Some(Fault::Empty)
+    } else if 32 < name.len() {
+        Some(Fault::Long)
+    } else if is_name(name) {
+        None
+    } else {
+        Some(Fault::NoName)
     }
-    if 32 < end - start {
-        return LONG;
-    }
-    if block.len() < end {
-        return NO_NAME;
-    }
-    if is_name(&block[start..end]) {
-        return FINE;
-    }
-    NO_NAME
-}
-
-// The index of the first entry of a list that is no name, or how many entries there are.
-fn first_wrong(block: &[u8], lists: &[u32], list: usize) -> usize {
-    let count = context_names::count_of(lists, row_of(list));
-    let mut i = 0;
-    while i < count {
-        if wrong_with(block, pair_at(lists, list, i)) != FINE {
-            return i;
-        }
-        i += 1;
-    }
-    count
-}
-
-// Whether a list has too many entries, or one that is no name.
-fn is_wrong(block: &[u8], lists: &[u32], list: usize) -> bool {
-    let count = context_names::count_of(lists, row_of(list));
-    if 64 < count {
-        return true;
-    }
-    first_wrong(block, lists, list) < count
-}
-
-// The first list that has something wrong, or 6.
-fn wrong_list(block: &[u8], lists: &[u32]) -> usize {
-    let mut turn = 0;
-    while turn < 6 {
-        if is_wrong(block, lists, checked_list(turn)) {
-            return checked_list(turn);
-        }
-        turn += 1;
-    }
-    6
 }
 
 // The offset of an entry in the file.
-pub fn entry_place(file: &[u8], list: usize, index: usize) -> usize {
-    let row = rows::row_at(file, rows::find_row(file, list));
-    let mut at = row.after;
-    let mut i = 0;
-    while i < index {
-        at = rows::word_end(file, rows::word_start(file, at, row.end), row.end);
-        i += 1;
+pub fn entry_place(file: &[u8], list: List, index: usize) -> usize {
+    match rows::find_row(file, list) {
+        Some(row) => match row.entries(file).nth(index) {
+            Some(entry) => entry.from,
+            None => row.end,
+        },
+        None => file.len(),
     }
-    rows::word_start(file, at, row.end)
 }
 
-fn put_fault(page: &mut [u8], len: usize, fault: u8) -> usize {
+fn said_of(fault: Fault) -> &'static str {
     match fault {
-        EMPTY => pages::put_all(page, len, b" is empty; a name has at least one byte"),
-        LONG => pages::put_all(page, len, b" has more than 32 bytes, the most of a name"),
-        _ => pages::put_all(page, len, b" is not one word or one number"),
+        Fault::Empty => " is empty; a name has at least one byte",
+        Fault::Long => " has more than 32 bytes, the most of a name",
+        Fault::NoName => " is not one word or one number",
     }
 }
 
-fn put_entry(
-    page: &mut [u8],
-    len: usize,
-    block: &[u8],
-    lists: &[u32],
-    list: usize,
-    file: &[u8],
-) -> usize {
-    let index = first_wrong(block, lists, list);
-    let pair = pair_at(lists, list, index);
-    let place = entry_place(file, row_of(list), index);
-    let odd = rows::strange_in(file, place);
-    if odd < file.len() {
-        return strange::put_found(page, len, file, odd);
+// An entry that is no name.
+fn put_entry(page: &mut Page, file: &[u8], name: &[u8], place: usize, fault: Fault) {
+    if let Some(odd) = rows::strange_in(file, place) {
+        return strange::put_found(page, file, odd);
     }
-    let a = places::put_place(page, len, file, place);
-    let b = pages::put_quoted(page, a, block, pair.offset, context_names::end_of(pair));
-    let c = put_fault(page, b, wrong_with(block, pair));
-    let d = pages::put(page, c, b'\n');
-    places::put_marked(page, d, file, place)
+    places::put_place(page, file, place);
+    page.put_quoted(name);
+    page.put_str(said_of(fault));
+    page.put(b'\n');
+    places::put_marked(page, file, place);
 }
 
-fn put_count(page: &mut [u8], len: usize, count: usize, list: usize, file: &[u8]) -> usize {
-    let place = rows::find_row(file, list);
-    let a = places::put_place(page, len, file, place);
-    let b = pages::put_number(page, a, count);
-    let c = pages::put_all(page, b, b" entries; a list has at most 64\n");
-    places::put_marked(page, c, file, place)
+// A list with too many entries.
+fn put_count(page: &mut Page, count: usize, list: List, file: &[u8]) {
+    let place = match rows::find_row(file, list) {
+        Some(row) => row.word.from,
+        None => file.len(),
+    };
+    places::put_place(page, file, place);
+    page.put_number(count);
+    page.put_str(" entries; a list has at most 64\n");
+    places::put_marked(page, file, place);
 }
 
-fn put_list(
-    page: &mut [u8],
-    len: usize,
-    block: &[u8],
-    lists: &[u32],
-    list: usize,
-    file: &[u8],
-) -> usize {
-    let count = context_names::count_of(lists, row_of(list));
+// What is wrong with the names of a list, and whether anything is.
+fn put_names(page: &mut Page, context: Context, names: Names, file: &[u8]) -> bool {
+    let list = names.list();
+    let count = context.count(list);
     if 64 < count {
-        return put_count(page, len, count, row_of(list), file);
+        put_count(page, count, list, file);
+        return true;
     }
-    put_entry(page, len, block, lists, list, file)
+    for index in 0..count {
+        let name = names.name(context, index);
+        if let Some(fault) = wrong_with(name) {
+            put_entry(page, file, name, entry_place(file, list, index), fault);
+            return true;
+        }
+    }
+    false
 }
 
 // Why a context that was read from a file is refused.
-pub fn put_wrong(page: &mut [u8], len: usize, block: &[u8], lists: &[u32], file: &[u8]) -> usize {
-    if 16384 < block.len() {
-        let n = pages::put_number(page, len, block.len());
-        return pages::put_all(page, n, b" bytes of names; a context has at most 16384\n");
+pub fn put_wrong(page: &mut Page, context: Context, file: &[u8]) {
+    let bytes = context.block.len();
+    if 16384 < bytes {
+        page.put_number(bytes);
+        page.put_str(" bytes of names; a context has at most 16384\n");
+        return;
     }
-    let list = wrong_list(block, lists);
-    if 6 <= list {
-        return pages::put_all(page, len, b"a context that is not as it must be\n");
+    for names in CHECKED {
+        if put_names(page, context, names, file) {
+            return;
+        }
     }
-    put_list(page, len, block, lists, list, file)
+    page.put_str("a context that is not as it must be\n");
 }

@@ -6,78 +6,41 @@
 
 mod reasons;
 
-ghost use Rattle.std.specs.Prelude.{◌≤◌, length};
-ghost use Rattle.io.specs.Counts.{IsPrefixLen};
-ghost use Rattle.show_input.specs.Within.{Within};
+ghost use Rattle.std.specs.Prelude.{◌≤◌, length, IfOk, IfSome};
 
-use counts::Counted;
-use show_pages::pages;
+use show_pages::pages::{self, Page};
 use std::env::{Env, FillError};
 use std::fs::File;
 use std::io::{Error, ErrorKind, Read, Write};
 
-// How many bytes were read, or why reading failed, which was told.
+// Why not all was written: a call took nothing, or it failed.
 #[derive(Clone, Copy)]
-pub enum Got {
-    Bytes(usize),
-    Failed(Error),
-}
-
-// Whether all was written, a call took nothing, or why one failed.
-#[derive(Clone, Copy)]
-pub enum Wrote {
-    All,
+pub enum Unwritten {
     Stuck,
     Failed(Error),
 }
 
-// What one call moved: so many bytes, or none where it came to an end, was interrupted, or failed.
-#[derive(Clone, Copy)]
-struct Step {
-    count: usize,
-    ended: bool,
-    failed: Option<Error>,
-}
-
-// What a call's answer means; what it moved lies within the part.
-fn moved(got: std::io::Result<usize>, part: &[u8]) -> Step
-    ensures { result.count ≤ length part.now }
+// How many bytes one call moved, which lie within the part; 0 where a signal interrupted it, and none at an end.
+fn moved(got: std::io::Result<usize>, part: &[u8]) -> Result<Option<usize>, Error>
+    ensures { IfOk result (λ o. IfSome o (λ n. n ≤ length part.now)) }
 {
     match got {
-        Ok(n) => {
-            let count = pages::within(n, part);
-            Step {
-                count,
-                ended: count == 0,
-                failed: None,
-            }
-        }
-        Err(error) => Step {
-            count: 0,
-            ended: false,
-            failed: unless_interrupted(error),
-        },
+        Ok(0) => Ok(None),
+        Ok(n) => Ok(Some(n.min(part.len()))),
+        Err(error) if error.kind() == ErrorKind::Interrupted => Ok(Some(0)),
+        Err(error) => Err(error),
     }
 }
 
-// A failure, but none where a signal interrupted the call.
-fn unless_interrupted(error: Error) -> Option<Error> {
-    if error.kind() == ErrorKind::Interrupted {
-        None
-    } else {
-        Some(error)
-    }
-}
-
-fn read_part<R: Read>(reader: &mut R, part: &mut [u8]) -> Step
-    ensures { result.count ≤ length part.new }
+fn read_part<R: Read>(reader: &mut R, part: &mut [u8]) -> Result<Option<usize>, Error>
+    ensures { IfOk result (λ o. IfSome o (λ n. n ≤ length part.new)) }
 {
     let got = reader.read(part);
     moved(got, part)
 }
 
-fn write_part<W: Write>(writer: &mut W, part: &[u8]) -> Step
-    ensures { result.count ≤ length part.now }
+fn write_part<W: Write>(writer: &mut W, part: &[u8]) -> Result<Option<usize>, Error>
+    ensures { IfOk result (λ o. IfSome o (λ n. n ≤ length part.now)) }
 {
     let got = writer.write(part);
     moved(got, part)
@@ -89,54 +52,43 @@ fn no_end() -> Error {
 }
 
 // Everything from a reader, to its end or until the buffer is full: a full buffer is more than any text may have, and what would follow
-// changes no answer. A proved loop has to end, so it counts its turns down, from a number that no run uses up.
-pub fn read_all<R: Read>(reader: &mut R, buffer: &mut [u8]) -> Got
-    ensures { Within (length buffer.new) result }
+// changes no answer. A proved loop has to end, so it counts its turns, up to a number that no run uses up.
+pub fn read_all<'a, R: Read>(reader: &mut R, buffer: &'a mut [u8]) -> Result<&'a [u8], Error>
+    ensures { IfOk result (λ s. length s.now ≤ length buffer.old) }
 {
     let mut at = 0;
-    let mut turns = u64::MAX;
-    while 0 < turns {
+    for _ in 0..u64::MAX {
         if buffer.len() <= at {
-            return Got::Bytes(at);
+            return Ok(buffer);
         }
-        let step = read_part(reader, &mut buffer[at..]);
-        if step.ended {
-            return Got::Bytes(at);
+        match read_part(reader, &mut buffer[at..])? {
+            Some(n) => at += n,
+            None => return Ok(&buffer[..at]),
         }
-        if let Some(error) = step.failed {
-            return Got::Failed(error);
-        }
-        at += step.count;
-        turns -= 1;
     }
-    Got::Failed(no_end())
+    Err(no_end())
 }
 
 // All bytes, in as many calls as it takes.
-pub fn write_all<W: Write>(writer: &mut W, bytes: &[u8]) -> Wrote {
-    let mut at = 0;
-    let mut turns = u64::MAX;
-    while 0 < turns {
-        if bytes.len() <= at {
-            return Wrote::All;
+pub fn write_all<W: Write>(writer: &mut W, bytes: &[u8]) -> Result<(), Unwritten> {
+    let mut rest = bytes;
+    for _ in 0..u64::MAX {
+        if rest.is_empty() {
+            return Ok(());
         }
-        let step = write_part(writer, &bytes[at..]);
-        if step.ended {
-            return Wrote::Stuck;
+        match write_part(writer, rest) {
+            Ok(Some(n)) => rest = &rest[n..],
+            Ok(None) => return Err(Unwritten::Stuck),
+            Err(error) => return Err(Unwritten::Failed(error)),
         }
-        if let Some(error) = step.failed {
-            return Wrote::Failed(error);
-        }
-        at += step.count;
-        turns -= 1;
     }
-    Wrote::Stuck
+    Err(Unwritten::Stuck)
 }
 
 // Bytes for a person. Where standard error fails there is nobody to tell.
 pub fn tell_bytes(rt: &HostRuntime, bytes: &[u8]) {
     let mut errors = rt.stderr();
-    write_all(&mut errors, bytes);
+    let _ = write_all(&mut errors, bytes);
 }
 
 // What every failure's line begins with, so that a script can tell one: the program, and that it failed.
@@ -151,41 +103,38 @@ pub fn tell(rt: &HostRuntime, program: &[u8], what: &[u8], error: Error) {
     tell_bytes(rt, what);
     tell_bytes(rt, b": ");
     let mut text = [0; 256];
-    let n = reasons::put_reason(&mut text, error);
-    tell_bytes(rt, &text[..n]);
+    tell_bytes(rt, reasons::put_reason(&mut text, error));
     tell_bytes(rt, b"\n")
 }
 
-fn tell_failure(rt: &HostRuntime, program: &[u8], what: &[u8], got: Got) {
-    match got {
-        Got::Bytes(_) => {}
-        Got::Failed(error) => tell(rt, program, what, error),
+// Everything from a reader, or why reading it failed, which is told.
+fn read_told<'a, R: Read>(
+    rt: &HostRuntime,
+    program: &[u8],
+    what: &[u8],
+    reader: &mut R,
+    buffer: &'a mut [u8],
+) -> Result<&'a [u8], Error>
+    ensures { IfOk result (λ s. length s.now ≤ length buffer.old) }
+{
+    match read_all(reader, buffer) {
+        Ok(bytes) => Ok(bytes),
+        Err(error) => {
+            tell(rt, program, what, error);
+            Err(error)
+        }
     }
 }
 
-// Standard input.
-pub fn read_input(rt: &HostRuntime, program: &[u8], buffer: &mut [u8]) -> Got
-    ensures { Within (length buffer.new) result }
-{
-    let mut input = rt.stdin();
-    let got = read_all(&mut input, buffer);
-    tell_failure(rt, program, b"standard input", got);
-    got
-}
-
-// What is read of a file that was opened, which is closed again: a number that stays open could be taken for standard input later.
-fn read_opened(
+// Standard input; why reading failed is told.
+pub fn read_input<'a>(
     rt: &HostRuntime,
     program: &[u8],
-    path: &[u8],
-    mut file: File,
-    buffer: &mut [u8],
-) -> Got
-    ensures { Within (length buffer.new) result }
+    buffer: &'a mut [u8],
+) -> Result<&'a [u8], Error>
+    ensures { IfOk result (λ s. length s.now ≤ length buffer.old) }
 {
-    let got = read_all(&mut file, buffer);
-    tell_failure(rt, program, path, got);
-    got
+    read_told(rt, program, b"standard input", &mut rt.stdin(), buffer)
 }
 
 // A file by its name, opened for reading. std opens names in UTF-8 alone.
@@ -199,15 +148,20 @@ fn open(rt: &HostRuntime, path: &[u8]) -> std::io::Result<File> {
     }
 }
 
-// A file by its name.
-pub fn read_file(rt: &HostRuntime, program: &[u8], path: &[u8], buffer: &mut [u8]) -> Got
-    ensures { Within (length buffer.new) result }
+// A file by its name, which is closed again: a number that stays open could be taken for standard input later. Why reading failed is told.
+pub fn read_file<'a>(
+    rt: &HostRuntime,
+    program: &[u8],
+    path: &[u8],
+    buffer: &'a mut [u8],
+) -> Result<&'a [u8], Error>
+    ensures { IfOk result (λ s. length s.now ≤ length buffer.old) }
 {
     match open(rt, path) {
-        Ok(file) => read_opened(rt, program, path, file, buffer),
+        Ok(mut file) => read_told(rt, program, path, &mut file, buffer),
         Err(error) => {
             tell(rt, program, path, error);
-            Got::Failed(error)
+            Err(error)
         }
     }
 }
@@ -225,16 +179,21 @@ fn no_argument(why: FillError) -> Error {
     }
 }
 
-// An argument of the program, whole.
-pub fn argument(rt: &HostRuntime, program: &[u8], index: usize, buffer: &mut [u8]) -> Got
-    ensures { Within (length buffer.new) result }
+// An argument of the program, whole; why it was not read is told.
+pub fn argument<'a>(
+    rt: &HostRuntime,
+    program: &[u8],
+    index: usize,
+    buffer: &'a mut [u8],
+) -> Result<&'a [u8], Error>
+    ensures { IfOk result (λ s. length s.now ≤ length buffer.old) }
 {
     match rt.arg(index, buffer) {
-        Ok(n) => Got::Bytes(n),
+        Ok(n) => Ok(pages::part(buffer, 0, n)),
         Err(why) => {
             let error = no_argument(why);
             tell(rt, program, b"an argument", error);
-            Got::Failed(error)
+            Err(error)
         }
     }
 }
@@ -250,83 +209,77 @@ pub fn argument_count(rt: &HostRuntime) -> usize {
     usize::MAX
 }
 
-// How many bytes of an argument there are at the buffer's start: none where there is no such argument, and none where it does not fit.
-pub fn argument_length(rt: &HostRuntime, index: usize, buffer: &mut [u8]) -> usize
-    ensures { IsPrefixLen result buffer.new }
+// An argument: no bytes where there is none, and none where it does not fit.
+pub fn argument_or_empty<'a>(rt: &HostRuntime, index: usize, buffer: &'a mut [u8]) -> &'a [u8]
+    ensures { length result.now ≤ length buffer.old }
 {
     match rt.arg(index, buffer) {
-        Ok(n) => pages::within(n, buffer),
-        Err(_) => pages::within(0, buffer),
+        Ok(n) => pages::part(buffer, 0, n),
+        Err(_) => pages::part(buffer, 0, 0),
     }
 }
 
 // The answer of a program, on standard output; that it was lost, in whole or in part, is told.
 pub fn write_answer(rt: &HostRuntime, program: &[u8], answer: &[u8]) {
-    let mut output = rt.stdout();
-    match write_all(&mut output, answer) {
-        Wrote::All => {}
-        Wrote::Stuck => {
+    match write_all(&mut rt.stdout(), answer) {
+        Ok(()) => {}
+        Err(Unwritten::Stuck) => {
             tell_failed(rt, program);
             tell_bytes(rt, b"standard output: takes no more bytes\n")
         }
-        Wrote::Failed(error) => tell(rt, program, b"standard output", error),
+        Err(Unwritten::Failed(error)) => tell(rt, program, b"standard output", error),
     }
 }
 
-// So many bytes of a page as the answer. One that is over-full is told, and nothing of it is written.
-pub fn write_page(rt: &HostRuntime, program: &[u8], page: &[u8], count: usize) {
-    if page.len() < count {
-        tell_failed(rt, program);
-        tell_bytes(rt, b"the answer is longer than its buffer\n");
-        return;
+// What a page has as the answer. One that is over-full has nothing whole, which is told, and nothing of it is written.
+pub fn write_page(rt: &HostRuntime, program: &[u8], whole: Option<&[u8]>) {
+    match whole {
+        Some(answer) => write_answer(rt, program, answer),
+        None => {
+            tell_failed(rt, program);
+            tell_bytes(rt, b"the answer is longer than its buffer\n")
+        }
     }
-    let n = pages::within(count, page);
-    write_answer(rt, program, &page[..n])
 }
 
-// So many bytes of a page for a person.
-pub fn write_message(rt: &HostRuntime, page: &[u8], count: usize) {
-    let n = pages::within(count, page);
-    tell_bytes(rt, &page[..n])
+// What a page has for a person.
+pub fn write_message(rt: &HostRuntime, page: &Page) {
+    tell_bytes(rt, page.kept())
 }
 
-// What the words before the others ask for: a ceiling for counts, and the index of the word behind `--ceiling N`; or that N is no number.
+// What the words before the others ask for: a ceiling for counts, and the index of the word behind `--ceiling N`.
 #[derive(Clone, Copy)]
-pub enum Ceiling {
-    Under(u32, usize),
-    Wrong,
+pub struct Ceiling {
+    pub limit: u32,
+    pub behind: usize,
 }
 
-// The ceiling where none is asked for: the source's limit.
-const CEILING: u32 = 64;
+// Where none is asked for: the source's limit.
+const CEILING: Ceiling = Ceiling {
+    limit: 64,
+    behind: 1,
+};
 
 // Whether the argument at an index is this word, ignoring case.
 pub fn is_word(rt: &HostRuntime, index: usize, name: &mut [u8], word: &[u8]) -> bool {
-    if argument_count(rt) <= index {
-        return false;
-    }
-    let n = argument_length(rt, index, name);
-    labels::same_word(&name[..n], word)
+    index < argument_count(rt) && argument_or_empty(rt, index, name).eq_ignore_ascii_case(word)
 }
 
 // The ceiling that a number says.
-fn ceiling_of(digits: &[u8]) -> Ceiling {
-    match counts::count_of(digits, u32::MAX) {
-        Counted::Count(value) => Ceiling::Under(value, 3),
-        Counted::Refused => Ceiling::Wrong,
-    }
+fn ceiling_of(digits: &[u8]) -> Option<Ceiling> {
+    let limit = counts::count_of(digits, u32::MAX)?;
+    Some(Ceiling { limit, behind: 3 })
 }
 
-// The ceiling that the first two arguments ask for.
-pub fn ceiling_words(rt: &HostRuntime, name: &mut [u8]) -> Ceiling {
-    if is_word(rt, 1, name, b"--ceiling") {
-        if argument_count(rt) <= 2 {
-            return Ceiling::Wrong;
-        }
-        let n = argument_length(rt, 2, name);
-        return ceiling_of(&name[..n]);
+// The ceiling that the first two arguments ask for, or nothing where it is no number.
+pub fn ceiling_words(rt: &HostRuntime, name: &mut [u8]) -> Option<Ceiling> {
+    if !is_word(rt, 1, name, b"--ceiling") {
+        Some(CEILING)
+    } else if argument_count(rt) <= 2 {
+        None
+    } else {
+        ceiling_of(argument_or_empty(rt, 2, name))
     }
-    Ceiling::Under(CEILING, 1)
 }
 
 // What `--version` writes: the product's line, and that of the kit by which it is proved.

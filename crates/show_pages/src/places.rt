@@ -1,122 +1,71 @@
 // Where an offset stands in a text, for a person: the line and the column as an editor counts them, from 1, a column a byte; and the line
 // itself with a mark under the place.
-ghost use Rattle.std.specs.Prelude.{◌+◌, ◌≤◌, ◌<◌, ◌^◌, length};
+ghost use Rattle.std.specs.Prelude.{◌≤◌, length};
 
-use crate::{pages, visible};
-
-fn next_line(byte: u8, line: usize) -> usize
-    requires { line + 1 < 2 ^ 64 }
-    ensures { result ≤ line + 1 }
-{
-    if byte == b'\n' { line + 1 } else { line }
-}
+use crate::pages::{self, Page};
+use crate::visible::{self, Characters};
 
 pub fn line_of(text: &[u8], offset: usize) -> usize {
-    let mut line = 1;
-    let mut i = 0;
-    while i < text.len() {
-        if offset <= i {
-            return line;
-        }
-        line = next_line(text[i], line);
-        i += 1;
-    }
-    line
-}
-
-// An offset, or the text's end where it is beyond.
-fn reached(text: &[u8], offset: usize) -> usize
-    ensures { (result ≤ offset) × (result ≤ length text.now) }
-{
-    if offset < text.len() {
-        offset
-    } else {
-        text.len()
-    }
+    let before = pages::part(text, 0, offset);
+    1 + before.iter().filter(|byte| **byte == b'\n').count()
 }
 
 // The offset of a line's first byte.
 pub fn line_start(text: &[u8], offset: usize) -> usize
     ensures { result ≤ offset }
 {
-    let mut at = reached(text, offset);
-    while 0 < at {
-        if text[at - 1] == b'\n' {
-            return at;
-        }
-        at -= 1;
+    let before = pages::part(text, 0, offset);
+    match before.iter().rposition(|byte| *byte == b'\n') {
+        Some(at) => at + 1,
+        None => 0,
     }
-    0
 }
 
 // The offset behind a line's last byte.
-pub fn line_end(text: &[u8], offset: usize) -> usize {
-    let mut at = offset;
-    while at < text.len() {
-        if text[at] == b'\n' {
-            return at;
-        }
-        at += 1;
+pub fn line_end(text: &[u8], offset: usize) -> usize
+    ensures { offset ≤ result }
+{
+    let rest = pages::part(text, offset, text.len());
+    match rest.iter().position(|byte| *byte == b'\n') {
+        Some(n) => offset + n,
+        None => offset.max(text.len()),
     }
-    at
 }
 
 // The first offset, from one on, that is inside no character.
 fn whole(text: &[u8], from: usize, end: usize) -> usize {
-    let mut at = from;
-    while at < end {
-        if text.len() <= at {
-            return at;
-        }
-        if !visible::is_inside(text[at]) {
-            return at;
-        }
-        at += 1;
-    }
-    at
-}
-
-// So many blanks, at most four.
-fn put_blanks(page: &mut [u8], len: usize, columns: usize) -> usize {
-    match columns {
-        1 => pages::put(page, len, b' '),
-        2 => pages::put_all(page, len, b"  "),
-        _ => pages::put_all(page, len, b"    "),
+    let rest = pages::part(text, from, end);
+    match rest.iter().position(|byte| !visible::is_inside(*byte)) {
+        Some(n) => from + n,
+        None => end,
     }
 }
 
-// What stands on the mark's line below the first character: blanks as wide as it is shown, or a tab.
-fn put_below(page: &mut [u8], len: usize, rest: &[u8]) -> usize {
-    if 0 < rest.len() {
-        if rest[0] == b'\t' {
-            return pages::put(page, len, b'\t');
+// What stands on the mark's line below a character: blanks as wide as it is shown, or a tab.
+fn put_below(page: &mut Page, character: &[u8]) {
+    if character.starts_with(b"\t") {
+        page.put(b'\t');
+    } else {
+        for _ in 0..visible::columns_of(character) {
+            page.put(b' ');
         }
     }
-    put_blanks(page, len, visible::columns_of(rest))
 }
 
 // What stands on the mark's line below a part of the text, before the mark.
-fn put_before(page: &mut [u8], len: usize, text: &[u8], from: usize, to: usize) -> usize {
-    let end = pages::within(to, text);
-    let mut n = len;
-    let mut i = from;
-    while i < end {
-        let rest = &text[i..end];
-        n = put_below(page, n, rest);
-        i += 1 + visible::following(rest);
+fn put_before(page: &mut Page, before: &[u8]) {
+    for character in Characters(before) {
+        put_below(page, character);
     }
-    n
 }
 
 // The end of a line without a carriage return.
 fn before_return(text: &[u8], start: usize, end: usize) -> usize {
-    if end <= start {
-        return end;
+    if pages::part(text, start, end).ends_with(b"\r") {
+        end - 1
+    } else {
+        end
     }
-    if text.len() < end {
-        return end;
-    }
-    if text[end - 1] == b'\r' { end - 1 } else { end }
 }
 
 // Where the shown part of a line starts and ends: a long line is cut around the place.
@@ -129,56 +78,48 @@ struct Cut {
 
 fn cut_around(text: &[u8], start: usize, offset: usize) -> Cut {
     let end = before_return(text, start, line_end(text, offset));
-    let mut from = start;
-    if start < offset {
-        if 60 < offset - start {
-            from = whole(text, offset - 60, offset);
+    let from = if start < offset && 60 < offset - start {
+        whole(text, offset - 60, offset)
+    } else {
+        start
+    };
+    if offset < end && 60 < end - offset {
+        Cut {
+            from,
+            to: whole(text, offset + 60, end),
+            ended: false,
         }
-    }
-    if offset < end {
-        if 60 < end - offset {
-            return Cut {
-                from,
-                to: whole(text, offset + 60, end),
-                ended: false,
-            };
+    } else {
+        Cut {
+            from,
+            to: end,
+            ended: true,
         }
-    }
-    Cut {
-        from,
-        to: end,
-        ended: true,
     }
 }
 
 // The line in which an offset stands, and the mark on a line below it.
-pub fn put_marked(page: &mut [u8], len: usize, text: &[u8], offset: usize) -> usize {
+pub fn put_marked(page: &mut Page, text: &[u8], offset: usize) {
     let start = line_start(text, offset);
     let cut = cut_around(text, start, offset);
     let whole = cut.from == start;
-    let a = pages::put_either(page, len, whole, b"  ", b"  ..");
-    let b = visible::put_visible(page, a, text, cut.from, cut.to);
-    let c = pages::put_either(page, b, cut.ended, b"\n", b"..\n");
-    let d = pages::put_either(page, c, whole, b"  ", b"    ");
-    let e = put_before(page, d, text, cut.from, offset);
-    pages::put_all(page, e, b"^\n")
+    page.put_str(if whole { "  " } else { "  .." });
+    page.put_visible(pages::part(text, cut.from, cut.to));
+    page.put_str(if cut.ended { "\n" } else { "..\n" });
+    page.put_str(if whole { "  " } else { "    " });
+    put_before(page, pages::part(text, cut.from, offset));
+    page.put_str("^\n");
 }
 
 // `line L, column C: `.
-pub fn put_place(page: &mut [u8], len: usize, text: &[u8], offset: usize) -> usize {
-    let a = pages::put_all(page, len, b"line ");
-    let b = pages::put_number(page, a, line_of(text, offset));
-    let c = pages::put_all(page, b, b", column ");
-    let d = pages::put_number(page, c, column_of(text, offset));
-    pages::put_all(page, d, b": ")
+pub fn put_place(page: &mut Page, text: &[u8], offset: usize) {
+    page.put_str("line ");
+    page.put_number(line_of(text, offset));
+    page.put_str(", column ");
+    page.put_number(column_of(text, offset));
+    page.put_str(": ");
 }
 
 fn column_of(text: &[u8], offset: usize) -> usize {
-    let start = line_start(text, offset);
-    let before = offset - start;
-    if before == usize::MAX {
-        before
-    } else {
-        before + 1
-    }
+    (offset - line_start(text, offset)).saturating_add(1)
 }

@@ -1,198 +1,74 @@
 // Which operand, name or covariate a statement is refused for, as Resolve itself says of each by itself (`probes`).
-use crate::operand_places::Operand;
-use crate::probes::Probed;
-use crate::{covariate, effects, operand_places, probes};
-use show_contexts::context_names;
+use crate::operand_places::{Names, Operand};
+use crate::probes::{Picked, Probe, entries_or_none};
+use crate::{covariate, effects, operand_places};
+use read_forms::Refusal;
 use show_texts::scenes;
 use tokens::Token;
 
-// What an operand stands for.
-pub fn probe_operand(
-    probe: &mut [u8],
-    lets: usize,
-    text: &[u8],
-    operand: Operand,
-    block: &[u8],
-    lists: &[u32],
-    picked: &mut [u8],
-) -> Probed {
-    if operand.covariate {
-        return probes::covariates(
-            probe,
-            lets,
-            text,
-            operand.from,
-            operand.to,
-            block,
-            lists,
-            picked,
-        );
+// What an operand stands for, or why it is refused.
+pub fn probe_operand(probe: &mut Probe, operand: Operand) -> Result<Picked, Refusal> {
+    let text = probe.text;
+    let star = scenes::token_at(text, operand.from).kind == b'*';
+    match operand.names {
+        Names::Covariates => probe.covariates(operand.of(text)),
+        Names::Varied if star => probe.parameters(b"@IIV"),
+        _ => probe.parameters(operand.of(text)),
     }
-    let token = scenes::token_at(text, operand.from);
-    if operand.iiv {
-        if token.kind == b'*' {
-            return probes::parameters(probe, lets, b"@IIV", 0, 4, block, lists, picked);
-        }
-    }
-    probes::parameters(
-        probe,
-        lets,
-        text,
-        operand.from,
-        operand.to,
-        block,
-        lists,
-        picked,
-    )
 }
 
-// Whether an operand is refused by a number.
-fn is_refused(
-    probe: &mut [u8],
-    lets: usize,
-    text: &[u8],
-    operand: Operand,
-    block: &[u8],
-    lists: &[u32],
-    number: u8,
-) -> bool {
-    let mut picked = [0; 64];
-    let found = probe_operand(probe, lets, text, operand, block, lists, &mut picked);
-    found.number == number
+// Whether an operand is refused for what its statement is.
+fn is_refused(probe: &mut Probe, operand: Operand, refusal: Refusal) -> bool {
+    match probe_operand(probe, operand) {
+        Ok(_) => false,
+        Err(own) => own.fault == refusal.fault,
+    }
 }
 
-// The operand for which a statement is refused: its first, or else its covariates.
-pub fn refused_of(
-    probe: &mut [u8],
-    lets: usize,
-    text: &[u8],
-    start: usize,
-    block: &[u8],
-    lists: &[u32],
-    number: u8,
-) -> Operand {
+// The operand for which the statement that starts at an offset is refused: its first, or else its covariates.
+pub fn refused_of(probe: &mut Probe, start: usize, refusal: Refusal) -> Operand {
+    let text = probe.text;
     let first = operand_places::first_of(text, start);
-    if !operand_places::has_covariates(text, start) {
-        return first;
+    if !operand_places::has_covariates(text, start) || is_refused(probe, first, refusal) {
+        first
+    } else {
+        operand_places::covariates_of(text, start)
     }
-    if is_refused(probe, lets, text, first, block, lists, number) {
-        return first;
-    }
-    operand_places::covariates_of(text, start)
-}
-
-// Whether a token is a name that is missing.
-fn is_missing(
-    probe: &mut [u8],
-    lets: usize,
-    text: &[u8],
-    operand: Operand,
-    token: Token,
-    block: &[u8],
-    lists: &[u32],
-) -> bool {
-    if tokens::NUMBER < token.kind {
-        return false;
-    }
-    is_refused(
-        probe,
-        lets,
-        text,
-        operand_places::alone(operand, token),
-        block,
-        lists,
-        15,
-    )
 }
 
 // The offset of the first name of an operand that is missing, or of the operand.
-fn first_missing(
-    probe: &mut [u8],
-    lets: usize,
-    text: &[u8],
-    operand: Operand,
-    block: &[u8],
-    lists: &[u32],
-) -> usize {
-    let mut at = operand.from;
-    while at < operand.to {
-        let token = scenes::token_at(text, at);
-        let next = token.next;
-        if is_missing(probe, lets, text, operand, token, block, lists) {
+fn first_missing(probe: &mut Probe, operand: Operand, refusal: Refusal) -> usize {
+    for token in scenes::tokens_between(probe.text, operand.from, operand.to) {
+        if token.kind <= tokens::NUMBER && is_refused(probe, operand.alone(token), refusal) {
             return token.start;
         }
-        if next.at <= at {
-            return operand.from;
-        }
-        at = next.at;
     }
     operand.from
 }
 
 // The place of the missing name: where it is written, in the statement or in the LET that brings it; or the symbol that does.
-pub fn missing_place(
-    probe: &mut [u8],
-    lets: usize,
-    text: &[u8],
-    operand: Operand,
-    block: &[u8],
-    lists: &[u32],
-) -> usize {
-    let start = operand_places::let_of(text, operand);
-    if start < text.len() {
-        let values = operand_places::values_of(text, operand, start);
-        return first_missing(probe, lets, text, values, block, lists);
+pub fn missing_place(probe: &mut Probe, operand: Operand, refusal: Refusal) -> usize {
+    let text = probe.text;
+    if let Some(start) = operand.find_let(text) {
+        first_missing(probe, operand.values_of(text, start), refusal)
+    } else if covariate::is_sign(text, operand.from) {
+        operand.from
+    } else {
+        first_missing(probe, operand, refusal)
     }
-    if covariate::is_sign(text, operand.from) {
-        return operand.from;
-    }
-    first_missing(probe, lets, text, operand, block, lists)
-}
-
-fn entry_at(picked: &[u8], i: usize) -> usize {
-    if i < picked.len() {
-        return wide(picked[i]);
-    }
-    0
-}
-
-fn wide(entry: u8) -> usize {
-    entry as usize
-}
-
-// The first of so many covariates that an effect does not suit.
-fn against_of(
-    text: &[u8],
-    from: usize,
-    to: usize,
-    lists: &[u32],
-    picked: &[u8],
-    count: usize,
-) -> usize {
-    let mut i = 0;
-    while i < count {
-        let entry = entry_at(picked, i);
-        if effects::first_against(text, from, to, context_names::kind_at(lists, entry)) < to {
-            return entry;
-        }
-        i += 1;
-    }
-    0
 }
 
 // The covariate that an effect of the COVARIATE which starts at an offset does not suit.
-pub fn against_entry(
-    probe: &mut [u8],
-    lets: usize,
-    text: &[u8],
-    start: usize,
-    block: &[u8],
-    lists: &[u32],
-) -> usize {
-    let mut picked = [0; 64];
+pub fn against_entry(probe: &mut Probe, start: usize) -> usize {
+    let text = probe.text;
+    let context = probe.context;
     let covariates = operand_places::covariates_of(text, start);
-    let found = probe_operand(probe, lets, text, covariates, block, lists, &mut picked);
-    let from = scenes::argument_start(text, start, 2);
-    let to = scenes::argument_end(text, from);
-    against_of(text, from, to, lists, &picked, found.count)
+    let picked = entries_or_none(probe_operand(probe, covariates));
+    for entry in picked.entries() {
+        let entry = *entry as usize;
+        if effects::first_against(text, start, context.kind(entry)).is_some() {
+            return entry;
+        }
+    }
+    0
 }

@@ -1,120 +1,36 @@
-// The forms of a COVARIATE's effects for each of its covariates: how many effects that makes, and what goes into the tables of pairs.
-use crate::pair_tables::{Terms, byte_at};
-use crate::{effects, pair_forms, pair_tables};
-use resolve_context::Kind;
-use show_contexts::context_names;
-use show_texts::scenes;
+// What a COVARIATE puts into the tables of pairs, covariate by covariate.
+use crate::covariate::{self, Terms};
+use crate::pair_forms;
+use crate::pair_tables::pair_of;
+use show_contexts::context_names::Context;
 
-// The sum of two numbers, or the first where there is none.
-pub fn sum(a: usize, b: usize) -> usize {
-    if usize::MAX - a < b { a } else { a + b }
-}
-
-fn wide(entry: u8) -> usize {
-    entry as usize
-}
-
-// Marks the effects of the statement that starts at an offset.
-pub fn fill_forms(forms: &mut [u8], text: &[u8], start: usize) {
-    let from = scenes::argument_start(text, start, 2);
-    let to = scenes::argument_end(text, from);
-    let mut at = from;
-    while at < to {
-        let token = scenes::token_at(text, at);
-        let next = token.next;
-        pair_tables::mark(forms, effects::effect_of(text, token));
-        if next.at <= at {
-            return;
+// The forms that a COVARIATE forces.
+pub fn force_all(forced: &mut [bool], won: &[bool], context: Context, terms: &Terms) {
+    for covariate in terms.covariates.entries() {
+        let kind = covariate::kind_of(context, *covariate);
+        for parameter in terms.parameters.entries() {
+            pair_forms::force_pair(forced, won, kind, terms, pair_of(*parameter, *covariate));
         }
-        at = next.at;
     }
 }
 
-// The kind of a covariate, as far as `*` goes by it.
-fn kind_of(lists: &[u32], covariate: u8) -> Kind {
-    if context_names::has_block(lists) {
-        return context_names::kind_at(lists, wide(covariate));
-    }
-    Kind::Continuous
-}
-
-// How many effects a parameter has with a covariate, of the seven forms.
-fn forms_for(forms: &[u8], star: bool, kind: Kind) -> usize {
-    let mut n = 0;
-    let mut form = 0;
-    while form < 7 {
-        if pair_forms::has_form(forms, star, kind, form) {
-            n = sum(n, 1);
-        }
-        form += 1;
-    }
-    n
-}
-
-// How many effects a parameter has with all covariates.
-fn forms_of_all(covariates: &[u8], forms: &[u8], lists: &[u32], terms: Terms) -> usize {
-    let mut n = 0;
-    let mut i = 0;
-    while i < terms.covariates {
-        let kind = kind_of(lists, byte_at(covariates, i));
-        n = sum(n, forms_for(forms, terms.star, kind));
-        i += 1;
-    }
-    n
-}
-
-// How many effects a COVARIATE has.
-pub fn count_effects(covariates: &[u8], forms: &[u8], lists: &[u32], terms: Terms) -> usize {
-    let each = forms_of_all(covariates, forms, lists, terms);
-    let mut n = 0;
-    let mut i = 0;
-    while i < terms.parameters {
-        n = sum(n, each);
-        i += 1;
-    }
-    n
-}
-
-// The forms that a COVARIATE forces, covariate by covariate.
-pub fn force_all(
-    forced: &mut [u8],
-    won: &[u8],
-    parameters: &[u8],
-    covariates: &[u8],
-    forms: &[u8],
-    lists: &[u32],
-    terms: Terms,
-) {
-    let mut i = 0;
-    while i < terms.covariates {
-        let covariate = byte_at(covariates, i);
-        let kind = kind_of(lists, covariate);
-        pair_tables::put_forced(forced, won, parameters, covariate, forms, kind, terms);
-        i += 1;
-    }
-}
-
-// The groups that a COVARIATE adds, covariate by covariate.
+// The groups that a COVARIATE adds: how many are new.
 pub fn group_all(
-    groups: &mut [u8],
-    forced: &[u8],
-    won: &[u8],
-    parameters: &[u8],
-    covariates: &[u8],
-    forms: &[u8],
-    lists: &[u32],
-    terms: Terms,
+    groups: &mut [bool],
+    forced: &[bool],
+    won: &[bool],
+    context: Context,
+    terms: &Terms,
 ) -> usize {
-    let mut n = 0;
-    let mut i = 0;
-    while i < terms.covariates {
-        let covariate = byte_at(covariates, i);
-        let kind = kind_of(lists, covariate);
-        let more = pair_tables::put_groups(
-            groups, forced, won, parameters, covariate, forms, kind, terms,
-        );
-        n = sum(n, more);
-        i += 1;
+    let mut n = 0usize;
+    for covariate in terms.covariates.entries() {
+        let kind = covariate::kind_of(context, *covariate);
+        for parameter in terms.parameters.entries() {
+            let pair = pair_of(*parameter, *covariate);
+            if pair_forms::group_pair(groups, forced, won, kind, terms, pair) {
+                n = n.saturating_add(1);
+            }
+        }
     }
     n
 }

@@ -1,49 +1,46 @@
 // The LETs of a text.
-use show_pages::pages;
+use show_pages::pages::Page;
+use show_texts::keywords::Keyword;
 use show_texts::scenes;
 
-// Where the text goes on behind a statement or a separator, and how many bytes were put.
-#[derive(Clone, Copy)]
-struct Walk {
-    at: usize,
-    len: usize,
+fn is_let(text: &[u8], start: usize) -> bool {
+    scenes::keyword_at(text, start) == Some(Keyword::Let)
 }
 
-// A statement's bytes behind a newline, if it is a LET.
-fn put_let(probe: &mut [u8], len: usize, text: &[u8], start: usize, end: usize) -> usize {
-    let word = scenes::token_at(text, start);
-    let after = word.next;
-    if scenes::keyword_at(text, start, after.at) != 14 {
-        return len;
-    }
-    let n = pages::put(probe, len, b'\n');
-    pages::put_part(probe, n, text, start, end)
+// The name of the LET that starts at an offset.
+fn key_of(text: &[u8], start: usize) -> &[u8] {
+    let token = scenes::token_at(text, scenes::argument_start(text, start, 0));
+    scenes::spelled(text, token)
 }
 
-// The next statement or separator.
-fn put_next(probe: &mut [u8], text: &[u8], walk: Walk) -> Walk {
-    let token = scenes::token_at(text, walk.at);
-    let after = token.next;
-    if token.kind == b';' {
-        return Walk {
-            at: after.at,
-            len: walk.len,
-        };
+// The offset of the first LET of a name, ignoring case.
+pub fn find_let(text: &[u8], word: &[u8]) -> Option<usize> {
+    for statement in scenes::statements_of(text) {
+        let start = statement.start;
+        if is_let(text, start) && key_of(text, start).eq_ignore_ascii_case(word) {
+            return Some(start);
+        }
     }
-    let end = scenes::more(scenes::closing_of(text, token.start));
-    let len = put_let(probe, walk.len, text, token.start, end);
-    Walk { at: end, len }
+    None
+}
+
+// The names of all LETs, each with an `@` before it and a comma behind it.
+pub fn put_keys(page: &mut Page, text: &[u8]) {
+    for statement in scenes::statements_of(text) {
+        if is_let(text, statement.start) {
+            page.put(b'@');
+            page.put_all(key_of(text, statement.start));
+            page.put_str(", ");
+        }
+    }
 }
 
 // All LETs of a text, a line each.
-pub fn put_lets(probe: &mut [u8], text: &[u8]) -> usize {
-    let mut walk = Walk { at: 0, len: 0 };
-    while walk.at < text.len() {
-        let next = put_next(probe, text, walk);
-        if next.at <= walk.at {
-            return next.len;
+pub fn put_lets(page: &mut Page, text: &[u8]) {
+    for statement in scenes::statements_of(text) {
+        if is_let(text, statement.start) {
+            page.put(b'\n');
+            page.put_all(statement.of(text));
         }
-        walk = next;
     }
-    walk.len
 }

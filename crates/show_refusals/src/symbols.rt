@@ -1,103 +1,56 @@
 // A LET that is the second of its name, and a symbol that stands for nothing that there is.
-use crate::symbol_words;
-use show_pages::{pages, places};
+use crate::{lets, symbol_words};
+use show_contexts::context_names::Context;
+use show_pages::pages::Page;
+use show_pages::places;
 use show_texts::scenes;
 use tokens::Token;
 
-// The line of the first LET of a token's name.
-fn first_line(text: &[u8], token: Token) -> usize {
-    let start = token.start;
-    let after = token.next;
-    let end = after.at;
-    if text.len() < end {
-        return 0;
-    }
-    if end < start {
-        return 0;
-    }
-    places::line_of(text, symbol_words::find_let(text, &text[start..end]))
-}
-
 // A second LET of a name.
-pub fn put_second(page: &mut [u8], len: usize, text: &[u8], start: usize) -> usize {
+pub fn put_second(page: &mut Page, text: &[u8], start: usize) {
     let token = scenes::token_at(text, scenes::argument_start(text, start, 0));
-    let after = token.next;
-    let a = places::put_place(page, len, text, token.start);
-    let b = pages::put_quoted(page, a, text, token.start, after.at);
-    let c = pages::put_all(page, b, b" has a LET already, on line ");
-    let d = pages::put_number(page, c, first_line(text, token));
-    let e = pages::put_all(
-        page,
-        d,
-        b"; a symbol has one, whatever the case of its letters\n",
-    );
-    places::put_marked(page, e, text, token.start)
+    let name = scenes::spelled(text, token);
+    let first = lets::find_let(text, name).unwrap_or(text.len());
+    places::put_place(page, text, token.start);
+    page.put_quoted(name);
+    page.put_str(" has a LET already, on line ");
+    page.put_number(places::line_of(text, first));
+    page.put_str("; a symbol has one, whatever the case of its letters\n");
+    places::put_marked(page, text, token.start);
 }
 
 // Why there is no such symbol.
-fn put_reason(page: &mut [u8], len: usize, word: &[u8]) -> usize {
-    if symbol_words::is_template(word) {
-        return pages::put_all(
-            page,
-            len,
-            b" is of the template, and the context has no line template; name the parameters, or define the symbol by a LET",
-        );
-    }
-    if symbol_words::is_declared(word) {
-        return pages::put_all(
-            page,
-            len,
-            b" is of the declared covariates, and the context has no line covariates; name them, or define the symbol by a LET",
-        );
-    }
-    pages::put_all(
-        page,
-        len,
-        b" is no symbol: no LET defines it, and it is no built-in",
-    )
-}
-
-fn put_token_reason(page: &mut [u8], len: usize, text: &[u8], token: Token) -> usize {
-    let start = token.start;
-    let after = token.next;
-    let end = after.at;
-    if text.len() < end {
-        return len;
-    }
-    if end < start {
-        return len;
-    }
-    put_reason(page, len, &text[start..end])
+fn put_reason(page: &mut Page, word: &[u8]) {
+    page.put_str(if symbol_words::is_template(word) {
+        " is of the template, and the context has no line template; name the parameters, or define the symbol by a LET"
+    } else if symbol_words::is_declared(word) {
+        " is of the declared covariates, and the context has no line covariates; name them, or define the symbol by a LET"
+    } else {
+        " is no symbol: no LET defines it, and it is no built-in"
+    });
 }
 
 // A symbol, or the `*` that stands for one.
-fn put_symbol(page: &mut [u8], len: usize, text: &[u8], sign: Token) -> usize {
+fn put_symbol(page: &mut Page, text: &[u8], sign: Token) {
     if sign.kind == b'*' {
-        let n = pages::put_all(page, len, b"`*` stands for `@PK` here, which");
-        return put_reason(page, n, b"PK");
+        page.put_str("`*` stands for `@PK` here, which");
+        return put_reason(page, b"PK");
     }
-    let after = sign.next;
-    let token = scenes::token_at(text, after.at);
-    let end = token.next;
-    let a = pages::put_all(page, len, b"`@");
-    let b = pages::put_part(page, a, text, token.start, end.at);
-    let c = pages::put(page, b, b'`');
-    put_token_reason(page, c, text, token)
-}
-
-// The symbols that there are.
-fn put_known(page: &mut [u8], len: usize, text: &[u8], lists: &[u32]) -> usize {
-    let a = pages::put_all(page, len, b"  known: ");
-    let b = symbol_words::put_symbols(page, a, text, lists);
-    pages::put(page, b, b'\n')
+    let word = scenes::spelled(text, scenes::token_at(text, sign.next.at));
+    page.put_str("`@");
+    page.put_all(word);
+    page.put(b'`');
+    put_reason(page, word);
 }
 
 // An unknown symbol, or one whose template or block is missing, at its place.
-pub fn put_unknown(page: &mut [u8], len: usize, text: &[u8], lists: &[u32], place: usize) -> usize {
+pub fn put_unknown(page: &mut Page, text: &[u8], context: Context, place: usize) {
     let sign = scenes::token_at(text, place);
-    let a = places::put_place(page, len, text, sign.start);
-    let b = put_symbol(page, a, text, sign);
-    let c = pages::put(page, b, b'\n');
-    let d = places::put_marked(page, c, text, sign.start);
-    put_known(page, d, text, lists)
+    places::put_place(page, text, sign.start);
+    put_symbol(page, text, sign);
+    page.put(b'\n');
+    places::put_marked(page, text, sign.start);
+    page.put_str("  known: ");
+    symbol_words::put_symbols(page, text, context);
+    page.put(b'\n');
 }

@@ -1,31 +1,21 @@
 // Why an argument is refused by 9, which has several causes.
 use crate::accepted::Wanted;
+use crate::keywords::Keyword;
 use crate::scenes::Scene;
 use crate::{accepted, found, scenes};
-use show_pages::pages;
+use show_pages::pages::Page;
 use tokens::Token;
 
 // The first word of an array, from behind its `[` on.
-fn put_word(page: &mut [u8], len: usize, text: &[u8], from: usize) -> usize {
-    let mut at = from;
-    while at < text.len() {
-        let token = scenes::token_at(text, at);
-        let after = token.next;
-        if token.kind == tokens::WORD {
-            return pages::put_quoted(page, len, text, token.start, after.at);
-        }
-        if after.at <= at {
-            return len;
-        }
-        at = after.at;
+fn put_word(page: &mut Page, text: &[u8], from: usize) {
+    if let Some(token) = scenes::tokens_from(text, from).find(|token| token.kind == tokens::WORD) {
+        page.put_quoted(scenes::spelled(text, token));
     }
-    len
 }
 
 // The token behind another.
 fn behind(text: &[u8], token: Token) -> Token {
-    let after = token.next;
-    scenes::token_at(text, after.at)
+    scenes::token_at(text, token.next.at)
 }
 
 // The first argument of a statement, behind its keyword, its `?` and its `(`.
@@ -33,115 +23,81 @@ fn first_argument(text: &[u8], scene: Scene) -> Token {
     let mark = scenes::token_at(text, scene.end);
     let first = behind(text, mark);
     if mark.kind == b'?' {
-        return behind(text, first);
+        behind(text, first)
+    } else {
+        first
     }
-    first
 }
 
 // Whether a token is the word N.
 fn is_n(text: &[u8], token: Token) -> bool {
-    let start = token.start;
-    let after = token.next;
-    let end = after.at;
-    if token.kind != tokens::WORD {
-        return false;
-    }
-    if text.len() < end {
-        return false;
-    }
-    if end < start {
-        return false;
-    }
-    labels::same_word(&text[start..end], b"N")
-}
-
-fn takes_counts(want: Wanted) -> bool {
-    match want {
-        Wanted::Counts => true,
-        Wanted::CountsOrN => true,
-        _ => false,
-    }
+    token.kind == tokens::WORD && scenes::spelled(text, token).eq_ignore_ascii_case(b"N")
 }
 
 // What was found where something else is wanted.
-fn put_kind(page: &mut [u8], len: usize, text: &[u8], place: usize, want: Wanted) -> usize {
-    let a = pages::put_all(page, len, b"found ");
-    let token = scenes::token_at(text, place);
-    let array = token.kind == b'[';
-    if array {
-        let b = pages::put_all(page, a, b"an array; accepted: ");
-        return accepted::put_wanted(page, b, want);
+fn put_kind(page: &mut Page, text: &[u8], place: usize, want: Option<Wanted>) {
+    page.put_str("found ");
+    if scenes::token_at(text, place).kind == b'[' {
+        page.put_str("an array");
+    } else {
+        found::put_found(page, text, place);
     }
-    let b = found::put_found(page, a, text, place);
-    let c = pages::put_all(page, b, b"; accepted: ");
-    accepted::put_wanted(page, c, want)
+    page.put_str("; accepted: ");
+    accepted::put_wanted(page, want);
 }
 
 // An array that is empty, or has a word among its counts, or stands where none may.
-fn put_array(page: &mut [u8], len: usize, text: &[u8], token: Token, want: Wanted) -> usize {
-    let after = token.next;
-    let first = scenes::token_at(text, after.at);
-    if first.kind == b']' {
-        return pages::put_all(page, len, b"an empty array; it must have an entry");
+fn put_array(page: &mut Page, text: &[u8], token: Token, want: Option<Wanted>) {
+    if behind(text, token).kind == b']' {
+        page.put_str("an empty array; it must have an entry");
+    } else if let Some(Wanted::Counts | Wanted::CountsOrN) = want {
+        put_word(page, text, token.next.at);
+        page.put_str(" is no count; this array has whole numbers");
+    } else {
+        put_kind(page, text, token.start, want);
     }
-    if takes_counts(want) {
-        let n = put_word(page, len, text, after.at);
-        return pages::put_all(page, n, b" is no count; this array has whole numbers");
-    }
-    put_kind(page, len, text, token.start, want)
 }
 
-// A `*` for the effects of a COVARIATE without `?`.
-fn is_star(scene: Scene, keyword: usize, token: Token) -> bool {
-    if keyword != 5 {
-        return false;
-    }
-    if scene.commas != 2 {
-        return false;
-    }
-    if scene.optional {
-        return false;
-    }
-    token.kind == b'*'
+// Whether this is a second argument behind N.
+fn follows_n(text: &[u8], scene: Scene, keyword: Option<Keyword>) -> bool {
+    keyword == Some(Keyword::Transits)
+        && scene.commas != 0
+        && is_n(text, first_argument(text, scene))
 }
 
-// A second argument behind N.
-fn follows_n(text: &[u8], scene: Scene, keyword: usize) -> bool {
-    if keyword != 3 {
-        return false;
-    }
-    if scene.commas == 0 {
-        return false;
-    }
-    is_n(text, first_argument(text, scene))
+// Whether this is a `*` for the effects of a COVARIATE without `?`.
+fn is_star(scene: Scene, keyword: Option<Keyword>, token: Token) -> bool {
+    keyword == Some(Keyword::Covariate)
+        && scene.commas == 2
+        && !scene.optional
+        && token.kind == b'*'
 }
 
-fn put_argument(page: &mut [u8], len: usize, text: &[u8], scene: Scene, token: Token) -> usize {
-    let keyword = scenes::keyword_of(text, scene);
+fn put_argument(page: &mut Page, text: &[u8], scene: Scene, token: Token) {
+    let keyword = scene.keyword(text);
     if follows_n(text, scene, keyword) {
-        return pages::put_all(page, len, b"TRANSITS(N) takes no second argument");
+        return page.put_str("TRANSITS(N) takes no second argument");
     }
     if is_star(scene, keyword, token) {
-        return pages::put_all(
-            page,
-            len,
-            b"`*` needs `COVARIATE?`; a COVARIATE that is no choice has its effects by name",
+        return page.put_str(
+            "`*` needs `COVARIATE?`; a COVARIATE that is no choice has its effects by name",
         );
     }
     let want = accepted::wanted_of(keyword, scene.commas);
     if token.kind == b'[' {
-        return put_array(page, len, text, token, want);
+        put_array(page, text, token, want);
+    } else {
+        put_kind(page, text, token.start, want);
     }
-    put_kind(page, len, text, token.start, want)
 }
 
 // Which argument of which feature, and why.
-pub fn put_wrong(page: &mut [u8], len: usize, text: &[u8], place: usize) -> usize {
+pub fn put_wrong(page: &mut Page, text: &[u8], place: usize) {
     let scene = scenes::scene_at(text, place);
-    let a = pages::put_all(page, len, b"argument ");
-    let b = pages::put_number(page, a, scenes::more(scene.commas));
-    let c = pages::put_all(page, b, b" of ");
-    let d = accepted::put_keyword(page, c, scenes::keyword_of(text, scene));
-    let e = pages::put_all(page, d, b": ");
-    put_argument(page, e, text, scene, scenes::token_at(text, place))
+    page.put_str("argument ");
+    page.put_number(scene.commas.saturating_add(1));
+    page.put_str(" of ");
+    accepted::put_keyword(page, scene.keyword(text));
+    page.put_str(": ");
+    put_argument(page, text, scene, scenes::token_at(text, place));
 }

@@ -1,14 +1,12 @@
 -- The answers of the lexer's functions, as values of the definition of tokens.
-use Rattle.std.specs.Prelude.{ℕ, ◌+◌, ◌<◌, ◌≤◌, false, List, ◌≡◌, length, drop, get_or}
+use Rattle.std.specs.Prelude.{ℕ, ◌+◌, ◌<◌, ◌≤◌, false, List, ◌≡◌, length, drop, get_or, Option, Some, None}
 use Rattle.tokens.specs.Class.{dot, blank, hash, number as number_of, class_number, class_between}
 use Rattle.tokens.specs.Lex.{tokens_at}
 use Rattle.tokens.specs.declared
 use Rattle.tokens.specs.declared.Cursor.{Cursor}
 use Rattle.tokens.specs.declared.Lexed.{Lexed}
 use Rattle.tokens.specs.declared.Lexed.TheVariants.{Word, Number, Mark, Bad, End}
-use Rattle.tokens.specs.declared.Scanned.{Scanned}
-use Rattle.tokens.specs.declared.Scanned.TheVariants.{Whole, Stray}
-use Rattle.tokens.specs.Token.{Token, Shape, word, number, mark, width, Tokens, finish, bad, ◌▸◌}
+use Rattle.tokens.specs.Token.{Shape, word, number, mark, width, Tokens, finish, bad, ◌▸◌}
 
 abbrev pub cursor : ℕ → Cursor
 cursor o = record { at = o }
@@ -37,9 +35,9 @@ abbrev pub token_at : List ℕ → ℕ → declared.Token.Token
 token_at s o = by_kind (length s) (first (tokens_at o (drop o s)))
 
 -- whether every byte of the text is in order, or which is the first that starts no token
-unfoldable pub scanned : Tokens → Scanned
-scanned finish = Whole
-scanned (bad o) = Stray o
+unfoldable pub scanned : Tokens → Option ℕ
+scanned finish = None
+scanned (bad o) = Some o
 scanned (t ▸ ts) = scanned ts
 
 -- What the lexer's own functions know of a text and an offset in it.

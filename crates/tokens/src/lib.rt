@@ -97,13 +97,6 @@ pub struct Token {
     pub next: Cursor,
 }
 
-// What a scan of the whole text finds: no byte amiss, or the offset of the first that starts no token.
-#[derive(Clone, Copy)]
-pub enum Scanned {
-    Whole,
-    Stray(usize),
-}
-
 // The class of the byte at an offset.
 fn class_at(text: &[u8], classes: &Classes, at: usize) -> u8
     requires { (classes.now ≡ class_table) × (at < length text.now) }
@@ -117,18 +110,13 @@ fn run_end(text: &[u8], classes: &Classes, at: usize, lo: u8, hi: u8) -> usize
     requires { (classes.now ≡ class_table) × (at ≤ length text.now) }
     ensures { result ≡ at + span (class_between lo hi) (drop at text.now) }
 {
-    let mut i = at;
-    while i < text.len() {
+    for i in at..text.len() {
         let class = class_at(text, classes, i);
-        if class < lo {
+        if class < lo || hi < class {
             return i;
         }
-        if hi < class {
-            return i;
-        }
-        i += 1;
     }
-    i
+    text.len()
 }
 
 // The offset after a word whose first letter stands just before `at`: hyphens, digits and letters are the last classes.
@@ -136,14 +124,12 @@ fn word_end(text: &[u8], classes: &Classes, at: usize) -> usize
     requires { (classes.now ≡ class_table) × (at ≤ length text.now) }
     ensures { result ≡ at + span (class_between (number hyphen) (number letter)) (drop at text.now) }
 {
-    let mut i = at;
-    while i < text.len() {
+    for i in at..text.len() {
         if class_at(text, classes, i) < HYPHEN {
             return i;
         }
-        i += 1;
     }
-    i
+    text.len()
 }
 
 // The offset after a number whose first digit stands just before `at`.
@@ -183,10 +169,7 @@ fn skip(text: &[u8], classes: &Classes, at: usize) -> usize
     let mut i = at;
     while i < text.len() {
         let class = class_at(text, classes, i);
-        if class < BLANK {
-            return i;
-        }
-        if HASH < class {
+        if class < BLANK || HASH < class {
             return i;
         }
         i = passed(text, classes, i, class);
@@ -354,9 +337,9 @@ fn plain_end(text: &[u8], classes: &Classes, at: usize) -> usize
     }
 }
 
-// Whether each byte of the text stands in a token, a blank or a comment, or which is the first that does not. Most of a text is blanks,
-// marks, separators and words, which are passed without a token being made of them.
-pub fn scan(text: &[u8], classes: &Classes) -> Scanned
+// The offset of the first byte that starts no token, or none: each byte of the text stands in a token, a blank or a comment. Most of a text is
+// blanks, marks, separators and words, which are passed without a token being made of them.
+pub fn scan(text: &[u8], classes: &Classes) -> Option<usize>
     requires { classes.now ≡ class_table }
     ensures { result ≡ scanned (tokens text.now) }
 {
@@ -369,19 +352,18 @@ pub fn scan(text: &[u8], classes: &Classes) -> Scanned
             let c = Cursor { at };
             let token = c.token_after_blanks(text, classes);
             if token.kind == BAD {
-                return Scanned::Stray(token.start);
+                return Some(token.start);
             }
             if token.kind == END {
-                return Scanned::Whole;
+                return None;
             }
-            let next = token.next;
-            at = next.at;
+            at = token.next.at;
         }
     }
 }
 
 // The scan of a text alone, which makes the table itself.
-pub fn scan_text(text: &[u8]) -> Scanned
+pub fn scan_text(text: &[u8]) -> Option<usize>
     ensures { result ≡ scanned (tokens text.now) }
 {
     let classes = CLASSES;

@@ -2,21 +2,34 @@
 #![tactic(auto)]
 
 ghost use Rattle.std.specs.Prelude.{◌≡◌, ◌<◌};
-ghost use Rattle.reading.specs.Answer.{accepted, refused};
-ghost use Rattle.words.specs.Word.{word};
+ghost use Rattle.reading.specs.Answer.{accepted};
+ghost use Rattle.read_forms.specs.Faults.{refused_by, answered, same};
+ghost use Rattle.words.specs.Word.{word, Below};
 
 use read_forms::Refusal;
 
 // What a call gives: a count, or how much it wrote.
-pub fn number_word(n: usize) -> u64
+fn number_word(n: usize) -> u64
     ensures { result ≡ word (accepted n) }
 {
     n as u64
 }
 
+// A refusal: its number above, its place below.
 pub fn refusal_word(refusal: Refusal) -> u64
     requires { refusal.place < 4294967296 }
-    ensures { result ≡ word (refused refusal.number refusal.place) }
+    ensures { result ≡ word (refused_by refusal) }
 {
-    refusal.number as u64 * 4294967296 + refusal.place as u64
+    refusal.fault as u64 * 4294967296 + refusal.place as u64
+}
+
+// The word of an answer.
+pub fn word_of(answer: Result<usize, Refusal>) -> u64
+    requires { Below (answered same answer) }
+    ensures { result ≡ word (answered same answer) }
+{
+    match answer {
+        Ok(n) => number_word(n),
+        Err(refusal) => refusal_word(refusal),
+    }
 }

@@ -4,10 +4,10 @@ use Rattle.words.specs.Word.{word, Below}
 use Rattle.dumachik.proofs.Below.{count-below}
 use Rattle.dumachik.proofs.mfl_count.Goals as goal
 
-pub word-requires : goal.word-requires
-word-requires c =
+pub word_of-requires : goal.word_of-requires
+word_of-requires c =
     let a = c.args in
     subst Below (sym c.count_under.ensures) (count-below a.ceiling a.text.now)
 
 pub returns : goal.returns
-returns c = c.word.ensures ∙ ap word c.count_under.ensures
+returns c = c.word_of.ensures ∙ ap word c.count_under.ensures

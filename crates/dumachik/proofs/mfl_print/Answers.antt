@@ -13,10 +13,10 @@ pub print_under-requires : goal.print_under-requires
 unfolding class_table class_of label_table labels_of keyword_table keywords
 print_under-requires c = (refl, refl, refl)
 
-pub word-requires : goal.word-requires
-word-requires c =
+pub word_of-requires : goal.word_of-requires
+word_of-requires c =
     let a = c.args in
     subst Below (sym c.print_under.ensures.told) (print_below a.ceiling (length a.out.now) a.text.now)
 
 pub returns : goal.returns
-returns c = record { value = c.word.ensures ∙ ap word c.print_under.ensures.told; out_after = c.print_under.ensures.left }
+returns c = record { value = c.word_of.ensures ∙ ap word c.print_under.ensures.told; out_after = c.print_under.ensures.left }

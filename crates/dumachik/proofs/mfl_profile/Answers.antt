@@ -7,10 +7,10 @@ use Rattle.words.specs.Word.{word, Below}
 use Rattle.dumachik.proofs.Below.{profile_below}
 use Rattle.dumachik.proofs.mfl_profile.Goals as goal
 
-pub word-requires : goal.word-requires
-word-requires c =
+pub word_of-requires : goal.word_of-requires
+word_of-requires c =
     let a = c.args in
     subst (λ (x : Answer Yes). Below (yes_as_zero x)) (sym c.profile_under.ensures) (profile_below a.ceiling a.text.now)
 
 pub returns : goal.returns
-returns c = c.word.ensures ∙ ap (λ (x : Answer Yes). word (yes_as_zero x)) c.profile_under.ensures
+returns c = c.word_of.ensures ∙ ap (λ (x : Answer Yes). word (yes_as_zero x)) c.profile_under.ensures

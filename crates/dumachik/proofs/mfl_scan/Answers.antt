@@ -4,12 +4,12 @@ use lib.ListN.{length}
 use Rattle.dumachik.specs.Scan.{stray_at}
 use Rattle.dumachik.proofs.mfl_scan.Goals as goal
 
-pub returns-in-Whole : goal.returns-in-Whole
-returns-in-Whole c =
+pub returns-in-None : goal.returns-in-None
+returns-in-None c =
     let text = c.args.text.now in
-    ap (stray_at (length text)) (sym c.in-Whole.is ∙ c.scan_text.ensures)
+    ap (stray_at (length text)) (sym c.in-None.is ∙ c.scan_text.ensures)
 
-pub returns-in-Stray : goal.returns-in-Stray
-returns-in-Stray c =
+pub returns-in-Some : goal.returns-in-Some
+returns-in-Some c =
     let text = c.args.text.now in
-    ap (stray_at (length text)) (sym c.in-Stray.is ∙ c.scan_text.ensures)
+    ap (stray_at (length text)) (sym c.in-Some.is ∙ c.scan_text.ensures)

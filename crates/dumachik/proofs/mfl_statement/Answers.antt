@@ -6,10 +6,10 @@ use Rattle.words.specs.Word.{word, Below}
 use Rattle.dumachik.proofs.Below.{statement-below}
 use Rattle.dumachik.proofs.mfl_statement.Goals as goal
 
-pub word-requires : goal.word-requires
-word-requires c =
+pub word_of-requires : goal.word_of-requires
+word_of-requires c =
     let a = c.args in
     subst Below (sym c.numbers_under.ensures.told) (statement-below a.ceiling (length a.out.now) a.text.now a.index (omega arith))
 
 pub returns : goal.returns
-returns c = record { value = c.word.ensures ∙ ap word c.numbers_under.ensures.told; out_after = c.numbers_under.ensures.left }
+returns c = record { value = c.word_of.ensures ∙ ap word c.numbers_under.ensures.told; out_after = c.numbers_under.ensures.left }

@@ -5,10 +5,10 @@ use Rattle.words.specs.Word.{word, Below}
 use Rattle.dumachik.proofs.Below.{statements-below}
 use Rattle.dumachik.proofs.mfl_statements.Goals as goal
 
-pub word-requires : goal.word-requires
-word-requires c =
+pub word_of-requires : goal.word_of-requires
+word_of-requires c =
     let a = c.args in
     subst Below (sym c.all_numbers_under.ensures.told) (statements-below a.ceiling (length a.out.now) a.text.now)
 
 pub returns : goal.returns
-returns c = record { value = c.word.ensures ∙ ap word c.all_numbers_under.ensures.told; out_after = c.all_numbers_under.ensures.left }
+returns c = record { value = c.word_of.ensures ∙ ap word c.all_numbers_under.ensures.told; out_after = c.all_numbers_under.ensures.left }

@@ -11,6 +11,7 @@ use Rattle.labels.specs.Word.{same_word}
 use Rattle.labels.specs.Table.{found_as}
 use Rattle.labels.specs.Row.{label_at, row_fits}
 use Rattle.labels.specs.Likely.{likely_place}
+use Rattle.labels.proofs.Words.{lower_ascii}
 use Rattle.labels.proofs.Tables.{held-row, lent, keywords-held}
 use Rattle.labels.proofs.OneKeyword.{likely_of, likely_within, short_none, likely_some, likely_none}
 use Rattle.labels.proofs.find_keyword.Goals.{After-likely-place, After-same_word}
@@ -19,7 +20,7 @@ use Rattle.labels.proofs.find_keyword.Goals as goal
 -- the place is the word's likely one
 place : (c : After-likely-place) → c.likely-place.result ≡ likely_of c.args.word.now
 place c =
-    c.likely-place.ensures ∙ ap (likely_place (length c.args.word.now)) c.lower_byte.ensures
+    c.likely-place.ensures ∙ ap (likely_place (length c.args.word.now)) (simp lower_ascii at c.to_ascii_lowercase.ensures.value)
 
 -- its row
 row : (c : After-likely-place)

@@ -43,12 +43,6 @@ same_word-requires c = tt
 pub returns-then-same_word : goal.returns-then-same_word
 returns-then-same_word c = sym (ap found_as (passed-found c.loop-place.invariant (omega arith) (sym (told (goal.at.returns-then-same_word c).After-same_word) ∙ c.if-same_word.true)))
 
-pub overflow_add-place : goal.overflow_add-place
-overflow_add-place c = omega arith
-
-pub loop-place-smaller : goal.loop-place-smaller
-loop-place-smaller c = omega arith
-
 pub loop-place-preserved : goal.loop-place-preserved
 loop-place-preserved c = passed-more c.loop-place.invariant (omega arith) (sym (told (goal.at.loop-place-preserved c).After-same_word) ∙ c.if-same_word.false)
 

@@ -1,26 +1,29 @@
 -- `labels::same_word` meets its contract. The loop's invariant: the words have one length, and are the same if what is left of them from `i`
 -- on is. The measure is the number of bytes left. Assumes nothing.
-use mathlib.Core.Path.{refl, sym, ap, ◌∙◌}
-use mathlib.Core.Logic.{⊎_elim}
+use mathlib.Core.Path.{refl, sym, ap}
 use native.Mathlib.Omega.{arith}
+use lib.ListN.{get_or}
 use Rattle.labels.specs.Word.{lower}
-use Rattle.labels.proofs.Words.{lengths_differ, alike-on, alike-not, alike_end}
-use Rattle.labels.proofs.same_word.Goals.{then-a-b+else-lower_byte, else-a-b}
+use Rattle.labels.proofs.Words.{lower_ascii, lengths_differ, alike-on, alike-not, alike_end}
+use Rattle.labels.proofs.same_word.Goals.{else-a-b-via-then-a-b+else-to_ascii_lowercase, else-a-b-via-else-a-b}
 use Rattle.labels.proofs.same_word.Goals as goal
 
 -- the bytes' lower cases differ
-pub returns-then-lower_byte : goal.returns-then-lower_byte
-returns-then-lower_byte c =
-    alike-not c.loop-i.invariant c.loop-i-test.true
-    (λ e. c.if-lower_byte.true (c.lower_byte.ensures ∙ e ∙ sym c.lower_byte-then-a-b.ensures))
+pub returns-then-to_ascii_lowercase : goal.returns-then-to_ascii_lowercase
+returns-then-to_ascii_lowercase c =
+    let a = get_or c.args.word.now c.loop-i.i 0 in
+    let b = get_or c.args.label.now c.loop-i.i 0 in
+    alike-not c.loop-i.invariant c.loop-i-test.true (λ e. c.if-to_ascii_lowercase.true (cc (lower_ascii a, lower_ascii b)))
 
 -- where a turn goes on, the bytes are equal in lower case or as they are
 pub loop-i-preserved : goal.loop-i-preserved
 loop-i-preserved c =
+    let a = get_or c.args.word.now c.loop-i.i 0 in
+    let b = get_or c.args.label.now c.loop-i.i 0 in
     alike-on c.loop-i.invariant c.loop-i-test.true
-    (elim c.if-a-b.branch [
-      | then-a-b+else-lower_byte w ↦ sym w.lower_byte.ensures ∙ w.if-lower_byte.false ∙ w.lower_byte-then-a-b.ensures
-      | else-a-b w ↦ ap lower w.if-a-b.false
+    (elim c.else-a-b.branch [
+      | else-a-b-via-then-a-b+else-to_ascii_lowercase w ↦ cc (lower_ascii a, lower_ascii b)
+      | else-a-b-via-else-a-b w ↦ ap lower w.if-a-b.false
     ])
 
 pub returns-then-word-label : goal.returns-then-word-label
@@ -34,18 +37,6 @@ bounds-word-i c = omega arith
 
 pub bounds-label-i : goal.bounds-label-i
 bounds-label-i c = omega arith
-
-pub lower_byte-requires : goal.lower_byte-requires
-lower_byte-requires c = tt
-
-pub lower_byte-requires-then-a-b : goal.lower_byte-requires-then-a-b
-lower_byte-requires-then-a-b c = tt
-
-pub overflow_add-i : goal.overflow_add-i
-overflow_add-i c = omega arith
-
-pub loop-i-smaller : goal.loop-i-smaller
-loop-i-smaller c = omega arith
 
 pub returns : goal.returns
 returns c = alike_end c.loop-i.invariant c.loop-i-test.false

@@ -7,14 +7,11 @@ use Rattle.read_statements.proofs.Keeping.{Keeping}
 use Rattle.numbers_all.proofs.Putting.{Putting}
 use Rattle.numbers_all.proofs.put_read.Given as goal
 
-abbrev pub invariant-loop-form : goal.invariant-loop-form
-invariant-loop-form l = Keeping (statement_in l.text) l.limit l.text l.forms l.n l.cur.at × (length l.forms ≡ 256)
+abbrev pub invariant-loop-next : goal.invariant-loop-next
+invariant-loop-next l = Keeping (statement_in l.text) l.limit l.text l.forms l.n l.cur.at × (length l.forms ≡ 256)
 
-abbrev pub decreases-loop-form : goal.decreases-loop-form
-decreases-loop-form l = length l.text - l.cur.at
+abbrev pub decreases-loop-next : goal.decreases-loop-next
+decreases-loop-next l = length l.text - l.cur.at
 
 abbrev pub invariant-loop-i : goal.invariant-loop-i
 invariant-loop-i l = Putting (λ f. f) l.limit l.text l.initial.out l.out l.forms l.n l.i l.at
-
-abbrev pub decreases-loop-i : goal.decreases-loop-i
-decreases-loop-i l = l.n - l.i

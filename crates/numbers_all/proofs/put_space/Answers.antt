@@ -27,23 +27,17 @@ known l =
 pub loop-i-init : goal.loop-i-init
 loop-i-init c limit e = none-put (λ (f : Form). f.statement) limit _ _ _ _ e (all_held (goal.at.loop-i-init c).Start)
 
-pub offset_bounds-forms-i : goal.offset_bounds-forms-i
-offset_bounds-forms-i c = omega (arith, index_below (goal.at.offset_bounds-forms-i c).In-loop-i)
+pub offset_bounds-space-i : goal.offset_bounds-space-i
+offset_bounds-space-i c = omega (arith, index_below (goal.at.offset_bounds-space-i c).In-loop-i)
 
-pub bounds-forms-i : goal.bounds-forms-i
-bounds-forms-i c = index_below (goal.at.bounds-forms-i c).In-loop-i
+pub bounds-space-i : goal.bounds-space-i
+bounds-space-i c = index_below (goal.at.bounds-space-i c).In-loop-i
 
 pub put_counted-at-requires : goal.put_counted-at-requires
 put_counted-at-requires c =
     let g = known (goal.at.put_counted-at-requires c).At-loop-i in
     let h = c.loop-i-test.true in
     (c.requires.0, this-fits (λ (f : Form). f.statement) g _ h, this-ready (λ (f : Form). f.statement) g _ h)
-
-pub overflow_add-i : goal.overflow_add-i
-overflow_add-i c = omega (arith, index_below (goal.at.overflow_add-i c).In-loop-i)
-
-pub loop-i-smaller : goal.loop-i-smaller
-loop-i-smaller c = omega (arith, c.loop-i-test.true)
 
 pub loop-i-preserved : goal.loop-i-preserved
 loop-i-preserved c limit e =

@@ -12,8 +12,5 @@ use Rattle.numbers_all.proofs.put_space.Given as goal
 abbrev pub invariant-loop-i : goal.invariant-loop-i
 invariant-loop-i l =
     (limit : ℕ)
-    → read_text limit l.text ≡ accepted (first_ones (form_in l.text) l.count l.forms)
-    → Putting (λ (f : Form). f.statement) limit l.text l.initial.out l.out l.forms l.count l.i l.at
-
-abbrev pub decreases-loop-i : goal.decreases-loop-i
-decreases-loop-i l = l.count - l.i
+    → read_text limit l.text ≡ accepted (first_ones (form_in l.text) l.space.count l.space.forms)
+    → Putting (λ (f : Form). f.statement) limit l.text l.initial.out l.out l.space.forms l.space.count l.i l.at

@@ -3,8 +3,10 @@
 use mathlib.Core.Path.{subst}
 use native.Mathlib.Omega.{arith}
 use Rattle.canonical.specs.Print.{print_text, Answers}
-use Rattle.print_render.specs.declared.Printed.{Printed}
-use Rattle.print_render.specs.Text.{printed_as}
+use Rattle.std.specs.Prelude.{Result}
+use Prim.Native.Nat.{ℕ}
+use Rattle.read_forms.specs.declared.Refusal.{Refusal}
+use Rattle.read_forms.specs.Faults.{answered, same}
 use Rattle.print_answers.proofs.Lines.{told, length-small, printed-line, refused-line}
 use Rattle.print_answers.proofs.print_line.Goals as goal
 
@@ -13,13 +15,13 @@ print_under-requires c = let p = c.requires in (p.0, p.1, p.2)
 
 pub put-requires : goal.put-requires
 put-requires c =
-    let w = subst (λ (x : Printed). Answers (print_text c.args.limit c.args.text.now) c.args.page.now c.print_under.new.out (printed_as x)) c.in-Length.is c.print_under.ensures in
+    let w = subst (λ (x : Result ℕ Refusal). Answers (print_text c.args.limit c.args.text.now) c.args.page.now c.print_under.new.out (answered same x)) c.in-Ok.is c.print_under.ensures in
     omega (arith, length-small c.args.limit c.args.text.now c.args.page.now c.print_under.new.out c.requires.3 w)
 
-pub returns-in-Length : goal.returns-in-Length
-returns-in-Length c =
-    let w = subst (λ (x : Printed). Answers (print_text c.args.limit c.args.text.now) c.args.page.now c.print_under.new.out (printed_as x)) c.in-Length.is c.print_under.ensures in record { written = printed-line c.args.limit c.args.text.now c.args.page.now c.print_under.new.out c.requires.3 w c.put.ensures; answer_value = told c.args.limit c.args.text.now c.args.page.now c.print_under.new.out c.requires.3 w }
+pub returns-in-Ok : goal.returns-in-Ok
+returns-in-Ok c =
+    let w = subst (λ (x : Result ℕ Refusal). Answers (print_text c.args.limit c.args.text.now) c.args.page.now c.print_under.new.out (answered same x)) c.in-Ok.is c.print_under.ensures in record { written = printed-line c.args.limit c.args.text.now c.args.page.now c.print_under.new.out c.requires.3 w c.put.ensures; answer_value = told c.args.limit c.args.text.now c.args.page.now c.print_under.new.out c.requires.3 w }
 
-pub returns-in-Refused : goal.returns-in-Refused
-returns-in-Refused c =
-    let w = subst (λ (x : Printed). Answers (print_text c.args.limit c.args.text.now) c.args.page.now c.print_under.new.out (printed_as x)) c.in-Refused.is c.print_under.ensures in record { written = refused-line c.args.limit c.args.text.now c.args.page.now c.print_under.new.out c.requires.3 w c.put_refused.ensures; answer_value = told c.args.limit c.args.text.now c.args.page.now c.print_under.new.out c.requires.3 w }
+pub returns-in-Err : goal.returns-in-Err
+returns-in-Err c =
+    let w = subst (λ (x : Result ℕ Refusal). Answers (print_text c.args.limit c.args.text.now) c.args.page.now c.print_under.new.out (answered same x)) c.in-Err.is c.print_under.ensures in record { written = refused-line c.args.limit c.args.text.now c.args.page.now c.print_under.new.out c.requires.3 w c.put_refused.ensures; answer_value = told c.args.limit c.args.text.now c.args.page.now c.print_under.new.out c.requires.3 w }

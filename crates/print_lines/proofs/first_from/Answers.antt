@@ -9,7 +9,7 @@ use Rattle.print_lines.proofs.first_from.Goals.{After-token-token}
 use Rattle.print_lines.proofs.first_from.Goals as goal
 
 -- what the token's kind tells
-here : (d : After-token-token) → Known d.args.text.now d.loop-token.at d.token-token.result
+here : (d : After-token-token) → Known d.args.text.now d.loop-token.cur.at d.token-token.result
 here d = known _ _ d.token-token.result d.token-token.ensures
 
 pub loop-token-init : goal.loop-token-init

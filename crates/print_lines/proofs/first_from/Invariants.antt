@@ -6,7 +6,7 @@ use Rattle.print_lines.specs.Given.{stretches_before}
 use Rattle.print_lines.proofs.first_from.Given as goal
 
 abbrev pub invariant-loop-token : goal.invariant-loop-token
-invariant-loop-token l = stretches_before l.text l.from ≡ stretches_before l.text l.at
+invariant-loop-token l = stretches_before l.text l.from ≡ stretches_before l.text l.cur.at
 
 abbrev pub decreases-loop-token : goal.decreases-loop-token
-decreases-loop-token l = length l.text - l.at
+decreases-loop-token l = length l.text - l.cur.at

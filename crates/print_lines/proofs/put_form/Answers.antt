@@ -11,21 +11,21 @@ use Rattle.print_lines.proofs.put_form.Goals as goal
 pub put_all-a-requires : goal.put_all-a-requires
 unfolding form_words
 put_all-a-requires c =
-    rw c.mode_label-form.ensures (room-before _ (get_or (labels_of CovariateEffect) (get_or c.args.effect 2 0) []) (operator_word (get_or c.args.effect 3 0) ++ optional_word (get_or c.args.effect 4 0)) c.requires.1)
+    rw c.mode_label-label.ensures (room-before _ (get_or (labels_of CovariateEffect) (get_or c.args.effect 2 0) []) (operator_word (get_or c.args.effect 3 0) ++ optional_word (get_or c.args.effect 4 0)) c.requires.1)
 
 pub put_operator-b-requires : goal.put_operator-b-requires
 unfolding form_words
 put_operator-b-requires c =
     room-first (operator_word (get_or c.args.effect 3 0)) (optional_word (get_or c.args.effect 4 0)) c.requires.1
-    (further (going _ _ _) (rw c.mode_label-form.ensures at c.put_all-a.ensures))
+    (further (going _ _ _) (rw c.mode_label-label.ensures at c.put_all-a.ensures))
 
 pub put_optional-requires : goal.put_optional-requires
 unfolding form_words
 put_optional-requires c =
-    room-left c.requires.1 (further (further (going _ _ _) (rw c.mode_label-form.ensures at c.put_all-a.ensures)) c.put_operator-b.ensures)
+    room-left c.requires.1 (further (further (going _ _ _) (rw c.mode_label-label.ensures at c.put_all-a.ensures)) c.put_operator-b.ensures)
 
 pub returns : goal.returns
 unfolding form_words
 returns c =
-    finished (further (further (going _ _ _) (rw c.mode_label-form.ensures at c.put_all-a.ensures)) c.put_operator-b.ensures)
+    finished (further (further (going _ _ _) (rw c.mode_label-label.ensures at c.put_all-a.ensures)) c.put_operator-b.ensures)
     c.put_optional.ensures

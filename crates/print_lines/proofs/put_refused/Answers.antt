@@ -1,45 +1,9 @@
--- `print_lines::put_refused` meets its contract: piece after piece, for which a page can always tell the room. Assumes nothing.
-use mathlib.Core.List.{◌++◌}
-use native.Mathlib.Omega.{arith}
-use Rattle.text.specs.Bytes.{bytes}
-use Rattle.counts.specs.Decimal.{digits_of}
-use Rattle.print_writing.specs.Written.{Room}
-use Rattle.print_writing.proofs.Going.{going, further, finished, room-left, room-first}
-use Rattle.lines.specs.Line.{refusal_line}
-use Rattle.print_lines.proofs.Digits.{refusal_room}
-use Rattle.print_lines.proofs.put_refused.Goals.{After-struct_known-1}
+-- `print_lines::put_refused` meets its contract. Assumes nothing.
+use Rattle.print_lines.proofs.Digits.{few_faults}
 use Rattle.print_lines.proofs.put_refused.Goals as goal
 
-room : (c : After-struct_known-1) → Room 0 (refusal_line c.args.refusal.number c.args.refusal.place)
-room c = refusal_room c.args.refusal.number c.args.refusal.place (omega (arith, c.struct_known-1.given)) (omega (arith, c.struct_known-1.given))
-
-pub put_number-b-requires : goal.put_number-b-requires
-unfolding refusal_line
-put_number-b-requires c =
-    room-first (digits_of c.args.refusal.number) (bytes " " ++ (digits_of c.args.refusal.place ++ bytes "\n")) (room (goal.at.put_number-b-requires c).After-struct_known-1)
-    (further (going _ _ _) c.put_all-a.ensures)
-
-pub put-c-requires : goal.put-c-requires
-unfolding refusal_line
-put-c-requires c =
-    room-first (bytes " ") (digits_of c.args.refusal.place ++ bytes "\n") (room (goal.at.put-c-requires c).After-struct_known-1)
-    (further (further (going _ _ _) c.put_all-a.ensures) c.put_number-b.ensures)
-
-pub put_number-d-requires : goal.put_number-d-requires
-unfolding refusal_line
-put_number-d-requires c =
-    room-first (digits_of c.args.refusal.place) (bytes "\n") (room (goal.at.put_number-d-requires c).After-struct_known-1)
-    (further (further (further (going _ _ _) c.put_all-a.ensures) c.put_number-b.ensures) c.put-c.ensures)
-
-pub put-requires : goal.put-requires
-unfolding refusal_line
-put-requires c =
-    room-left (room (goal.at.put-requires c).After-struct_known-1)
-    (further (further (further (further (going _ _ _) c.put_all-a.ensures) c.put_number-b.ensures) c.put-c.ensures) c.put_number-d.ensures)
+pub put_words-requires : goal.put_words-requires
+put_words-requires c = rw c.number_of.ensures (few_faults c.args.refusal.fault)
 
 pub returns : goal.returns
-unfolding refusal_line
-returns c =
-    finished
-    (further (further (further (further (going _ _ _) c.put_all-a.ensures) c.put_number-b.ensures) c.put-c.ensures) c.put_number-d.ensures)
-    c.put.ensures
+returns c = rw (← c.number_of.ensures) c.put_words.ensures

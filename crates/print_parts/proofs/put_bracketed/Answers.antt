@@ -11,19 +11,19 @@ use Rattle.print_parts.proofs.Bytes.{spell-bracketed}
 use Rattle.print_parts.proofs.put_bracketed.Goals as goal
 
 pub put_entries-last-requires : goal.put_entries-last-requires
-put_entries-last-requires c =
-    let xs = shapes_as c.args.entry (items_in c.args.text.now c.args.items) in
+put_entries-last-requires g c =
+    let xs = shapes_as g.E.Entry.shape (items_in c.args.text.now c.args.items) in
     let r = room-same c.args.at (spell-bracketed xs) c.requires.2 in
     (c.requires.0, c.requires.1, room-first (spell_all (entry_shapes xs)) (bytes "]") r (further (going _ _ _) c.put-first.ensures))
 
 pub put-requires : goal.put-requires
-put-requires c =
-    let xs = shapes_as c.args.entry (items_in c.args.text.now c.args.items) in
+put-requires g c =
+    let xs = shapes_as g.E.Entry.shape (items_in c.args.text.now c.args.items) in
     room-left (room-same c.args.at (spell-bracketed xs) c.requires.2)
     (further (further (going _ _ _) c.put-first.ensures) c.put_entries-last.ensures)
 
 pub returns : goal.returns
-returns c =
-    let xs = shapes_as c.args.entry (items_in c.args.text.now c.args.items) in
+returns g c =
+    let xs = shapes_as g.E.Entry.shape (items_in c.args.text.now c.args.items) in
     rw (spell-bracketed xs)
     (finished (further (further (going _ _ _) c.put-first.ensures) c.put_entries-last.ensures) c.put.ensures)

@@ -4,8 +4,8 @@ use lib.ListN.{length}
 use Rattle.print_render.proofs.Loop.{Sofar}
 use Rattle.print_render.proofs.put_text.Given as goal
 
-abbrev pub invariant-loop-form : goal.invariant-loop-form
-invariant-loop-form l = Sofar l.limit l.text l.initial.out l.out l.n l.cur.at l.at
+abbrev pub invariant-loop-next : goal.invariant-loop-next
+invariant-loop-next l = Sofar l.limit l.text l.initial.out l.out l.n l.cur.at l.at
 
-abbrev pub decreases-loop-form : goal.decreases-loop-form
-decreases-loop-form l = length l.text - l.cur.at
+abbrev pub decreases-loop-next : goal.decreases-loop-next
+decreases-loop-next l = length l.text - l.cur.at

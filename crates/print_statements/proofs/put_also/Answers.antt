@@ -5,8 +5,8 @@ use mathlib.Core.List.{◌++◌}
 use Rattle.text.specs.Bytes.{bytes}
 use Rattle.tokens.specs.Spelling.{spell_all}
 use Rattle.canonical.specs.Canonical.{argument_shapes}
-use Rattle.print_writing.proofs.Writing.{nothing_written, room-same}
-use Rattle.print_writing.proofs.Going.{going, further, finished, room-left, room-first}
+use Rattle.print_writing.proofs.Writing.{nothing_written}
+use Rattle.print_writing.proofs.Going.{going, further, finished}
 use Rattle.print_statements.specs.Bytes.{behind, shapes_in}
 use Rattle.print_statements.proofs.Bytes.{no_shapes, some_shapes_lem}
 use Rattle.print_statements.proofs.put_also.Goals.{Then-prints}
@@ -19,15 +19,6 @@ led :
 led c =
     let a = c.args in
     some_shapes_lem (shapes_in a.text.now a.part) (sym (c.prints.ensures a.text.now) ∙ c.if-prints.true)
-
-pub put-next-requires : goal.put-next-requires
-put-next-requires c =
-    room-first (bytes ",") (spell_all (argument_shapes (shapes_in c.args.text.now c.args.part))) (room-same c.args.at (led (goal.at.put-next-requires c).Then-prints) c.requires.3)
-    (going c.args.out.now _ _)
-
-pub put_part-requires : goal.put_part-requires
-put_part-requires c =
-    (c.requires.0, c.requires.1, c.requires.2, room-left {left = spell_all (argument_shapes (shapes_in c.args.text.now c.args.part))} (room-same c.args.at (led (goal.at.put_part-requires c).Then-prints) c.requires.3) (further (going _ _ _) c.put-next.ensures))
 
 pub returns-then-prints : goal.returns-then-prints
 returns-then-prints c =

@@ -3,11 +3,5 @@
 use Rattle.print_writing.proofs.Writing.{nothing_written}
 use Rattle.print_statements.proofs.put_question.Goals as goal
 
-pub put-requires : goal.put-requires
-put-requires c = rw c.if-optional.true at c.requires
-
-pub returns-then-optional : goal.returns-then-optional
-returns-then-optional c = rw c.if-optional.true c.put.ensures
-
 pub returns : goal.returns
 returns c = rw c.if-optional.false (nothing_written _ _)

@@ -1,11 +1,7 @@
--- What the loop keeps, and what it counts down.
-use Prim.Native.Nat.{◌-◌, ◌≤◌}
-use lib.ListN.{length, take}
+-- So many of the elements were written.
+use lib.ListN.{take}
 use Rattle.print_writing.specs.Written.{Written}
 use Rattle.print_writing.proofs.put_each.Given as goal
 
-abbrev pub invariant-loop-done : goal.invariant-loop-done
-invariant-loop-done l = (l.done ≤ length l.bytes) × Written l.initial.out l.at (take l.done l.bytes) l.out l.next
-
-abbrev pub decreases-loop-done : goal.decreases-loop-done
-decreases-loop-done l = length l.bytes - l.done
+abbrev pub invariant-loop-item : goal.invariant-loop-item
+invariant-loop-item g l = Written l.initial.out l.at (take l.item-index l.items) l.out l.next

@@ -19,6 +19,9 @@ use Rattle.read_forms.specs.Fits.{Listed, Fits}
 use Rattle.read_forms.proofs.Entries.{entries-more, listed_more, after_more, entries-length}
 use Rattle.read_forms.proofs.Lists.{items_are}
 use Rattle.tokens.proofs.Views.{Known, known, known-mark}
+use Rattle.std.specs.Prelude.{Result, Ok, Err}
+use Rattle.std.proofs.Common.{rules}
+use Rattle.read_forms.specs.declared.Refusal.{Refusal}
 use Rattle.read_arguments.specs.declared.Entry.{Entry}
 use Rattle.read_arguments.specs.Answers.{read_in, arg_then, ArgFurther, entry_then, EntryFurther, EntryListed}
 use Rattle.read_arguments.proofs.Reading.{read_token, not-empty}
@@ -27,7 +30,7 @@ use Rattle.read_arguments.proofs.array.Goals.{After-token-token}
 use Rattle.read_arguments.proofs.array.Goals as goal
 
 -- one entry more, behind which the array goes on or ends
-module _ (s : List ℕ) (p o n cur : ℕ) (g : Gone s p o n cur) (r : Entry)
+module _ (s : List ℕ) (p o n cur : ℕ) (g : Gone s p o n cur) (r : Result Entry Refusal)
     (is : (limit : ℕ) (c : Call) (q : ℕ) (items : List Item)
     → length items ≡ n
     → read_in limit s (item c q items) cur ≡ entry_then limit s c q (items ++ entries 1 (tokens_from s cur)) r)
@@ -77,7 +80,7 @@ overflow_add-n c =
     let s = c.args.text.now in
     let p = c.args.bracket in
     let o = c.args.cur.at in
-    let f = subst (EntryFurther s c.loop-c.from.at _) c.in-More.is c.read_entry.ensures.entry_further in
+    let f = subst (EntryFurther s c.loop-c.from.at _) (c.in_ok-c.was ∙ ap Ok c.in-More.is) c.read_entry.ensures.entry_further in
     omega (arith, f.0, f.1, c.loop-c.invariant.few)
 
 pub loop-c-smaller : goal.loop-c-smaller
@@ -86,7 +89,7 @@ loop-c-smaller c =
     let s = c.args.text.now in
     let p = c.args.bracket in
     let o = c.args.cur.at in
-    let f = subst (EntryFurther s c.loop-c.from.at _) c.in-More.is c.read_entry.ensures.entry_further in
+    let f = subst (EntryFurther s c.loop-c.from.at _) (c.in_ok-c.was ∙ ap Ok c.in-More.is) c.read_entry.ensures.entry_further in
     omega (arith, f.0, f.1)
 
 pub loop-c-preserved : goal.loop-c-preserved
@@ -95,8 +98,8 @@ loop-c-preserved c =
     let s = c.args.text.now in
     let p = c.args.bracket in
     let o = c.args.cur.at in
-    let f = subst (EntryFurther s c.loop-c.from.at _) c.in-More.is c.read_entry.ensures.entry_further in
-    let e = subst (EntryListed s c.loop-c.from.at c.loop-c.n) c.in-More.is c.read_entry.ensures.entry_listed in
+    let f = subst (EntryFurther s c.loop-c.from.at _) (c.in_ok-c.was ∙ ap Ok c.in-More.is) c.read_entry.ensures.entry_further in
+    let e = subst (EntryListed s c.loop-c.from.at c.loop-c.n) (c.in_ok-c.was ∙ ap Ok c.in-More.is) c.read_entry.ensures.entry_listed in
     let g = c.loop-c.invariant in
     let n = c.loop-c.n in
     let cur = c.loop-c.from.at in
@@ -111,17 +114,17 @@ loop-c-preserved c =
       past = omega (arith, f.0, g.past);
       same = λ limit call.
           on s p o n cur g c.read_entry.result c.read_entry.ensures.by_index limit call
-          ∙ ap (entry_then limit s call p (entries c.loop-c.n (tokens_from s o) ++ entries 1 (tokens_from s c.loop-c.from.at))) c.in-More.is
+          ∙ ap (entry_then limit s call p (entries c.loop-c.n (tokens_from s o) ++ entries 1 (tokens_from s c.loop-c.from.at))) (c.in_ok-c.was ∙ ap Ok c.in-More.is)
           ∙ ap (λ (items : List Item). read_in limit s (item call p items) c.in-More.c.at) (all s p o n cur g c.read_entry.result c.read_entry.ensures.by_index e.0);
     }
 
-pub overflow_add-count : goal.overflow_add-count
+pub overflow_add-items : goal.overflow_add-items
 unfolding EntryFurther
-overflow_add-count c =
+overflow_add-items c =
     let s = c.args.text.now in
     let p = c.args.bracket in
     let o = c.args.cur.at in
-    let f = subst (EntryFurther s c.loop-c.from.at _) c.in-Done.is c.read_entry.ensures.entry_further in
+    let f = subst (EntryFurther s c.loop-c.from.at _) (c.in_ok-c.was ∙ ap Ok c.in-Done.is) c.read_entry.ensures.entry_further in
     omega (arith, f.0, f.1, c.loop-c.invariant.few)
 
 pub returns-in-Done : goal.returns-in-Done
@@ -130,8 +133,8 @@ returns-in-Done c =
     let s = c.args.text.now in
     let p = c.args.bracket in
     let o = c.args.cur.at in
-    let f = subst (EntryFurther s c.loop-c.from.at _) c.in-Done.is c.read_entry.ensures.entry_further in
-    let e = subst (EntryListed s c.loop-c.from.at c.loop-c.n) c.in-Done.is c.read_entry.ensures.entry_listed in
+    let f = subst (EntryFurther s c.loop-c.from.at _) (c.in_ok-c.was ∙ ap Ok c.in-Done.is) c.read_entry.ensures.entry_further in
+    let e = subst (EntryListed s c.loop-c.from.at c.loop-c.n) (c.in_ok-c.was ∙ ap Ok c.in-Done.is) c.read_entry.ensures.entry_listed in
     let g = c.loop-c.invariant in
     let n = c.loop-c.n in
     let cur = c.loop-c.from.at in
@@ -139,16 +142,24 @@ returns-in-Done c =
     record { are = more-listed s p o n cur g c.read_entry.result c.read_entry.ensures.by_index e.0; few = omega (arith, e.1) } in record {
       by_index = (λ limit call.
           on s p o n cur g c.read_entry.result c.read_entry.ensures.by_index limit call
-          ∙ ap (entry_then limit s call p (entries c.loop-c.n (tokens_from s o) ++ entries 1 (tokens_from s c.loop-c.from.at))) c.in-Done.is
+          ∙ ap (entry_then limit s call p (entries c.loop-c.n (tokens_from s o) ++ entries 1 (tokens_from s c.loop-c.from.at))) (c.in_ok-c.was ∙ ap Ok c.in-Done.is)
           ∙ ap (λ (items : List Item). read_in limit s (argument_read call (argument.array p items)) c.in-Done.c.at)
           (all s p o n cur g c.read_entry.result c.read_entry.ensures.by_index e.0 ∙ sym (items_are s _ whole)));
       arg_further = (omega (arith, f.0, g.past), f.1, whole);
     }
 
-pub returns-in-Refused : goal.returns-in-Refused
+pub returns-in_err-c : goal.returns-in_err-c
 unfolding entry_then arg_then ArgFurther
-returns-in-Refused c =
+returns-in_err-c c =
     let s = c.args.text.now in
     let p = c.args.bracket in
     let o = c.args.cur.at in
-    let g = c.loop-c.invariant in record { by_index = (λ limit call. on s p o c.loop-c.n c.loop-c.from.at g c.read_entry.result c.read_entry.ensures.by_index limit call ∙ ap (entry_then limit s call p (entries c.loop-c.n (tokens_from s o) ++ entries 1 (tokens_from s c.loop-c.from.at))) c.in-Refused.is); arg_further = tt }
+    let g = c.loop-c.invariant in
+    let told : c.from_residual.result ≡ Err c.in_err-c.field-0.0 = search rules in
+    rw told
+    (record {
+      by_index = λ limit call.
+          on s p o c.loop-c.n c.loop-c.from.at g c.read_entry.result c.read_entry.ensures.by_index limit call
+          ∙ ap (entry_then limit s call p (entries c.loop-c.n (tokens_from s o) ++ entries 1 (tokens_from s c.loop-c.from.at))) c.in_err-c.was;
+      arg_further = tt;
+    })

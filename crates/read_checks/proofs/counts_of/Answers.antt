@@ -4,7 +4,6 @@ use mathlib.Core.Path.{sym}
 use Rattle.reading.specs.Argument.{counts_of}
 use Rattle.read_forms.specs.Forms.{arg_in, counts_in}
 use Rattle.read_forms.specs.Fits.{Fits}
-use Rattle.read_checks.specs.Answers.{counts_as}
 use Rattle.read_checks.proofs.Others.{no_counts}
 use Rattle.read_checks.proofs.counts_of.Goals as goal
 
@@ -21,7 +20,7 @@ unfolding counts_of arg_in
 returns-in-Number c = rw c.in-Number.is c.lone_count.ensures
 
 pub returns-in-Range : goal.returns-in-Range
-unfolding counts_as counts_in counts_of arg_in
+unfolding counts_in counts_of arg_in
 returns-in-Range c = rw c.in-Range.is
 
 pub returns-in-Array : goal.returns-in-Array
@@ -29,5 +28,4 @@ unfolding arg_in
 returns-in-Array c = rw c.in-Array.is c.listed_counts.ensures
 
 pub returns-in_default : goal.returns-in_default
-unfolding counts_as
 returns-in_default c = rw (c.wrong.ensures, c.place_of.ensures c.args.text.now) (sym (no_counts _ _ _ (opened c.in_default.in_default-own.keys4)))

@@ -1,9 +1,7 @@
--- What the loop keeps, and what it counts down.
+-- What the loop keeps.
+use Prim.Native.Nat.{◌-◌}
 use Rattle.read_checks.proofs.Modes.{Sofar}
 use Rattle.read_checks.proofs.listed_modes.Given as goal
 
-abbrev pub invariant-loop-left : goal.invariant-loop-left
-invariant-loop-left l = Sofar l.family l.text l.initial.left l.initial.cur.at l.left l.cur.at l.packed
-
-abbrev pub decreases-loop-left : goal.decreases-loop-left
-decreases-loop-left l = l.left
+abbrev pub invariant-loop-done : goal.invariant-loop-done
+invariant-loop-done l = Sofar l.family l.text l._done-end l.initial.cur.at (l._done-end - l._done) l.cur.at l.packed

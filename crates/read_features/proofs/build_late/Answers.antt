@@ -1,6 +1,5 @@
 -- `read_features::build_late` meets its contract, keyword by keyword. Assumes nothing.
 use Rattle.reading.specs.Feature.{feature_of}
-use Rattle.read_features.specs.Answers.{built_as}
 use Rattle.read_features.proofs.Building.{place_none}
 use Rattle.read_features.proofs.build_late.Goals as goal
 
@@ -29,7 +28,6 @@ pub returns-in-13 : goal.returns-in-13
 returns-in-13 c = λ k e. rw c.in-13.is (c.covariance.ensures c.args.limit k e)
 
 pub returns-in_default : goal.returns-in_default
-unfolding built_as
 returns-in_default c = λ k e.
     let r = c.in_default.in_default-own.rest in
     rw (place_none c.args.keyword c.requires.le_keyword r.0.0.0.0.0.0.1 r.0.0.0.0.0.1 r.0.0.0.0.1 r.0.0.0.1 r.0.0.1 r.0.1 r.1, e)

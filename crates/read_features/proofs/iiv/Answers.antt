@@ -1,17 +1,15 @@
 -- `read_features::iiv` meets its contract. Assumes nothing.
+use Rattle.std.proofs.Common.{rules}
 use Rattle.reading.specs.Statement.{Iiv}
 use Rattle.reading.specs.Feature.{feature_of}
 use Rattle.read_forms.specs.Forms.{feature_in}
-use Rattle.read_features.specs.Answers.{built_as, eta_as}
 use Rattle.read_features.proofs.Building.{variability_eta}
 use Rattle.read_features.proofs.iiv.Goals as goal
 
-pub returns-in-Eta : goal.returns-in-Eta
-unfolding built_as feature_of feature_in eta_as
-returns-in-Eta c = λ limit k e.
-    rw (variability_eta (Iiv c.args.optional), ← (c.eta.ensures k e), c.in-Eta.is)
+pub returns-in_err-eta : goal.returns-in_err-eta
+unfolding feature_of
+returns-in_err-eta c = λ limit k e. rw (variability_eta (Iiv c.args.optional), ← (c.eta.ensures k e), c.in_err-eta.was) (search rules)
 
-pub returns-in-Refused : goal.returns-in-Refused
-unfolding built_as feature_of eta_as
-returns-in-Refused c = λ limit k e.
-    rw (variability_eta (Iiv c.args.optional), ← (c.eta.ensures k e), c.in-Refused.is)
+pub returns : goal.returns
+unfolding feature_of feature_in
+returns c = λ limit k e. rw (variability_eta (Iiv c.args.optional), ← (c.eta.ensures k e), c.in_ok-eta.was)

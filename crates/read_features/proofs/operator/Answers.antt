@@ -1,11 +1,10 @@
 -- `read_features::operator` meets its contract. Assumes nothing.
 use Rattle.reading.specs.Feature.{operator_of}
-use Rattle.read_checks.specs.Answers.{op_read_as}
 use Rattle.read_features.proofs.Arity.{fourth-none, fourth_some}
 use Rattle.read_features.proofs.operator.Goals as goal
 
 pub returns-then-args-eq3 : goal.returns-then-args-eq3
-unfolding op_read_as operator_of
+unfolding operator_of
 returns-then-args-eq3 c = λ s. rw (fourth-none c.args.args c.if-args-eq3.true)
 
 pub returns : goal.returns

@@ -1,45 +1,47 @@
 -- `read_features::transits` meets its contract. Assumes nothing.
+use Rattle.std.proofs.Common.{rules, ◌≡◌, ◌<◌}
+use mathlib.Core.Logic.{◌⊎◌, inl, inr}
 use Rattle.reading.specs.Feature.{feature_of}
 use Rattle.read_forms.specs.Forms.{feature_in}
-use Rattle.read_features.specs.Answers.{built_as, some_modes_as, transits_as}
-use Rattle.read_features.proofs.Arity.{oneOrTwo-none, oneOrTwo-more, oneOrTwo-is}
+use Rattle.read_features.proofs.Arity.{one_or_two-not, one_or_two-is}
+use Rattle.read_features.proofs.transits.Goals.{then-args-eq0-via-then-args-eq0, then-args-eq0-via-else-args-eq0+then-args-gt2}
 use Rattle.read_features.proofs.transits.Goals as goal
 
 pub returns-then-args-eq0 : goal.returns-then-args-eq0
-unfolding built_as feature_of
-returns-then-args-eq0 c = λ k e. rw (c.wrong_number.ensures, oneOrTwo-none c.args.args c.if-args-eq0.true, e)
+unfolding feature_of
+returns-then-args-eq0 c = λ k e.
+    let h : (c.args.args.count ≡ 0) ⊎ (2 < c.args.args.count) =
+    elim c.then-args-eq0.branch [
+      | then-args-eq0-via-then-args-eq0 w ↦ inl w.if-args-eq0.true
+      | then-args-eq0-via-else-args-eq0+then-args-gt2 w ↦ inr w.if-args-gt2.true
+    ] in
+    rw (c.wrong_number.ensures, one_or_two-not c.args.args h, e)
 
-pub returns-then-args-gt2 : goal.returns-then-args-gt2
-unfolding built_as feature_of
-returns-then-args-gt2 c = λ k e. rw (c.wrong_number-then-args-gt2.ensures, oneOrTwo-more c.args.args c.if-args-gt2.true, e)
+pub returns-in_err-counts : goal.returns-in_err-counts
+unfolding feature_of
+returns-in_err-counts c = λ k e.
+    rw (one_or_two-is c.args.args c.if-args-eq0.false c.if-args-gt2.false, ← c.transits_of.ensures, c.in_err-counts.was) (search rules)
 
-pub returns-in-Modes : goal.returns-in-Modes
-unfolding feature_of feature_in transits_as some_modes_as
-returns-in-Modes c = λ k e.
-    let a = c.args in
+pub returns-in_err-depot : goal.returns-in_err-depot
+unfolding feature_of
+returns-in_err-depot c = λ k e.
     rw (
-      oneOrTwo-is a.args c.if-args-eq0.false c.if-args-gt2.false,
+      one_or_two-is c.args.args c.if-args-eq0.false c.if-args-gt2.false,
       ← c.transits_of.ensures,
-      c.in-Counts.is,
+      c.in_ok-counts.was,
       ← c.second_modes.ensures,
-      c.in-Modes.is,
+      c.in_err-depot.was,
     )
-    (c.mandatory.ensures a.text.now k e)
+    (search rules)
 
-pub returns-in-Refused-second_modes : goal.returns-in-Refused-second_modes
-unfolding built_as feature_of transits_as some_modes_as
-returns-in-Refused-second_modes c = λ k e.
-    let a = c.args in
+pub returns : goal.returns
+unfolding feature_of feature_in
+returns c = λ k e.
     rw (
-      oneOrTwo-is a.args c.if-args-eq0.false c.if-args-gt2.false,
+      one_or_two-is c.args.args c.if-args-eq0.false c.if-args-gt2.false,
       ← c.transits_of.ensures,
-      c.in-Counts.is,
+      c.in_ok-counts.was,
       ← c.second_modes.ensures,
-      c.in-Refused-second_modes.is,
+      c.in_ok-depot.was,
     )
-
-pub returns-in-Refused : goal.returns-in-Refused
-unfolding built_as feature_of transits_as
-returns-in-Refused c = λ k e.
-    let a = c.args in
-    rw (oneOrTwo-is a.args c.if-args-eq0.false c.if-args-gt2.false, ← c.transits_of.ensures, c.in-Refused.is)
+    (c.mandatory.ensures c.args.text.now k e)

@@ -27,13 +27,6 @@ pub bounds-counts-n : goal.bounds-counts-n
 bounds-counts-n c =
     omega (arith, c.loop-n.invariant.size, c.requires.1.few, c.loop-n-test.true)
 
-pub overflow_add-n : goal.overflow_add-n
-overflow_add-n c =
-    omega (arith, c.requires.1.few, c.loop-n-test.true)
-
-pub loop-n-smaller : goal.loop-n-smaller
-loop-n-smaller c = omega (arith, c.loop-n-test.true)
-
 pub loop-n-preserved : goal.loop-n-preserved
 loop-n-preserved c =
     let a = c.args in

@@ -23,13 +23,6 @@ pub bounds-all-i : goal.bounds-all-i
 bounds-all-i c =
     omega (arith, c.loop-i.invariant.size, c.requires.1.few, c.loop-i-test.true)
 
-pub overflow_add-i : goal.overflow_add-i
-overflow_add-i c =
-    omega (arith, c.requires.1.few, c.loop-i-test.true)
-
-pub loop-i-smaller : goal.loop-i-smaller
-loop-i-smaller c = omega (arith, c.loop-i-test.true)
-
 pub loop-i-preserved : goal.loop-i-preserved
 loop-i-preserved c =
     let a = c.args in

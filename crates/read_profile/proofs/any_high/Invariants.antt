@@ -1,9 +1,7 @@
--- What the loop keeps, and what it counts down.
+-- What the loop keeps.
+use Prim.Native.Nat.{◌-◌}
 use Rattle.read_profile.proofs.HighCounts.{Left}
 use Rattle.read_profile.proofs.any_high.Given as goal
 
-abbrev pub invariant-loop-left : goal.invariant-loop-left
-invariant-loop-left l = Left l.text l.initial.left l.initial.cur.at l.left l.cur.at
-
-abbrev pub decreases-loop-left : goal.decreases-loop-left
-decreases-loop-left l = l.left
+abbrev pub invariant-loop-done : goal.invariant-loop-done
+invariant-loop-done l = Left l.text l._done-end l.initial.cur.at (l._done-end - l._done) l.cur.at

@@ -8,7 +8,7 @@ use lib.ListN.{length}
 use Rattle.profiling.specs.Profile.{profile_of}
 use Rattle.read_profile.specs.Answers.{mark_as, Numbered, profiled_as}
 use Rattle.read_profile.proofs.Judging.{none_judged, all_judged, outside-refused, plain-passed, second-refused, high-refused, once-passed, form-fits}
-use Rattle.read_profile.proofs.first_fault.Goals.{In-Once, In-loop-i, Start}
+use Rattle.read_profile.proofs.first_fault.Goals.{In-Once, In-loop-i, Start, in-Plain, in-Once+else-seen-feature+else-high}
 use Rattle.read_profile.proofs.first_fault.Goals as goal
 
 -- the array has room for all statements, and there are at most 256
@@ -26,11 +26,11 @@ below f = subst Numbered f.in-Once.is f.mark_of.ensures.1
 pub loop-i-init : goal.loop-i-init
 loop-i-init c = none_judged _ _ _
 
-pub offset_bounds-forms-i : goal.offset_bounds-forms-i
-offset_bounds-forms-i c = omega (arith, index_below (goal.at.offset_bounds-forms-i c).In-loop-i)
+pub offset_bounds-space-i : goal.offset_bounds-space-i
+offset_bounds-space-i c = omega (arith, index_below (goal.at.offset_bounds-space-i c).In-loop-i)
 
-pub bounds-forms-i : goal.bounds-forms-i
-bounds-forms-i c = index_below (goal.at.bounds-forms-i c).In-loop-i
+pub bounds-space-i : goal.bounds-space-i
+bounds-space-i c = index_below (goal.at.bounds-space-i c).In-loop-i
 
 pub mark_of-requires : goal.mark_of-requires
 mark_of-requires c =
@@ -42,18 +42,6 @@ returns-in-Outside c =
     ap profiled_as c.refused.ensures
     ∙ outside-refused c.loop-i.invariant _ c.loop-i-test.true (all_held (goal.at.returns-in-Outside c).Start) (mark_as c.mark_of.result) c.mark_of.ensures.0
     (ap mark_as c.in-Outside.is)
-
-pub overflow_add-i : goal.overflow_add-i
-overflow_add-i c = omega (arith, index_below (goal.at.overflow_add-i c).In-loop-i)
-
-pub loop-i-smaller-in-Plain : goal.loop-i-smaller-in-Plain
-loop-i-smaller-in-Plain c = omega (arith, c.loop-i-test.true)
-
-pub loop-i-preserved-in-Plain : goal.loop-i-preserved-in-Plain
-unfolding mark_as
-loop-i-preserved-in-Plain c =
-    plain-passed c.loop-i.invariant _ c.loop-i-test.true (all_held (goal.at.loop-i-preserved-in-Plain c).Start) (mark_as c.mark_of.result) c.mark_of.ensures.0
-    (ap mark_as c.in-Plain.is)
 
 pub bounds-seen-feature : goal.bounds-seen-feature
 bounds-seen-feature c = below (goal.at.bounds-seen-feature c).In-Once
@@ -75,17 +63,20 @@ returns-then-high c =
 pub bounds-seen-feature-in-Once : goal.bounds-seen-feature-in-Once
 bounds-seen-feature-in-Once c = below (goal.at.bounds-seen-feature-in-Once c).In-Once
 
-pub overflow_add-i-in-Once : goal.overflow_add-i-in-Once
-overflow_add-i-in-Once c = omega (arith, index_below (goal.at.overflow_add-i-in-Once c).In-loop-i)
-
-pub loop-i-smaller : goal.loop-i-smaller
-loop-i-smaller c = omega (arith, c.loop-i-test.true)
-
 pub loop-i-preserved : goal.loop-i-preserved
-unfolding mark_as
+unfolding mark_as Numbered
 loop-i-preserved c =
-    once-passed c.loop-i.invariant _ c.loop-i-test.true (all_held (goal.at.loop-i-preserved c).Start) (mark_as c.mark_of.result) c.mark_of.ensures.0
-    c.in-Once.feature c.in-Once.high (below (goal.at.loop-i-preserved c).In-Once) (ap mark_as c.in-Once.is) c.if-seen-feature.false c.if-high.false
+    let g = c.loop-i.invariant in
+    let h = all_held (goal.at.loop-i-preserved c).Start in
+    let m = mark_as c.mark_of.result in
+    let e = c.mark_of.ensures in
+    elim c.match-mark_of.branch [
+      | in-Plain w ↦ rw w.seen-is (plain-passed g _ c.loop-i-test.true h m e.0 (ap mark_as w.in-Plain.is))
+      | in-Once+else-seen-feature+else-high w ↦
+          rw w.seen-is
+          (once-passed g _ c.loop-i-test.true h m e.0 w.in-Once.feature w.in-Once.high (subst Numbered w.in-Once.is e.1)
+          (ap mark_as w.in-Once.is) w.if-seen-feature.false w.if-high.false)
+    ]
 
 pub returns : goal.returns
 unfolding profiled_as profile_of

@@ -6,8 +6,8 @@ use Rattle.read_statements.proofs.Keeping.{Keeping}
 use Rattle.read_space.specs.Space.{form_in}
 use Rattle.read_space.proofs.read_space.Given as goal
 
-abbrev pub invariant-loop-statement : goal.invariant-loop-statement
-invariant-loop-statement l = Keeping (form_in l.text) l.limit l.text l.forms l.n l.cur.at × (length l.forms ≡ 256)
+abbrev pub invariant-loop-next : goal.invariant-loop-next
+invariant-loop-next l = Keeping (form_in l.text) l.limit l.text l.forms l.n l.cur.at × (length l.forms ≡ 256)
 
-abbrev pub decreases-loop-statement : goal.decreases-loop-statement
-decreases-loop-statement l = length l.text - l.cur.at
+abbrev pub decreases-loop-next : goal.decreases-loop-next
+decreases-loop-next l = length l.text - l.cur.at

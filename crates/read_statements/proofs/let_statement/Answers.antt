@@ -8,29 +8,35 @@ use Rattle.reading.specs.Syntax.{let_made}
 use Rattle.read_forms.specs.Items.{name_in}
 use Rattle.read_forms.specs.Forms.{statement_in}
 use Rattle.read_arguments.specs.Answers.{step_in}
-use Rattle.read_checks.specs.Answers.{items_as}
+use Rattle.read_forms.specs.Items.{items_in}
+use Rattle.read_forms.specs.Faults.{answered}
+use Rattle.std.specs.Prelude.{Err}
+use Rattle.std.proofs.Common.{rules, ◌≡◌}
 use Rattle.read_statements.specs.Answers.{one_before, next_then, NextFrom}
 use Rattle.read_statements.proofs.let_statement.Goals as goal
 
-pub returns-in-Items : goal.returns-in-Items
-unfolding let_made items_as statement_in
-returns-in-Items c =
+pub returns : goal.returns
+unfolding let_made statement_in
+returns c =
     let a = c.args in
     let s = a.text.now in record {
       by_index = (λ limit.
           ap (λ (y : Answer (List Item)). one_before limit (length s) a.n (step_in limit s (let_made (name_in s a.name) y) a.cur.at))
-          (sym (c.items_of.ensures s c.requires.1) ∙ ap (items_as s) c.in-Items.is)
+          (sym (c.items_of.ensures s c.requires.1) ∙ ap (answered (items_in s)) c.in_ok-values.was)
           ∙ c.completed.ensures.by_index limit);
       next_from = c.completed.ensures.next_from;
     }
 
-pub returns-in-Refused : goal.returns-in-Refused
-unfolding let_made items_as next_then NextFrom
-returns-in-Refused c =
+pub returns-in_err-values : goal.returns-in_err-values
+unfolding let_made next_then NextFrom
+returns-in_err-values c =
     let a = c.args in
-    let s = a.text.now in record {
+    let s = a.text.now in
+    let told : c.from_residual.result ≡ Err c.in_err-values.field-0.0 = search rules in
+    rw told
+    (record {
       by_index = (λ limit.
           ap (λ (y : Answer (List Item)). one_before limit (length s) a.n (step_in limit s (let_made (name_in s a.name) y) a.cur.at))
-          (sym (c.items_of.ensures s c.requires.1) ∙ ap (items_as s) c.in-Refused.is));
+          (sym (c.items_of.ensures s c.requires.1) ∙ ap (answered (items_in s)) c.in_err-values.was));
       next_from = tt;
-    }
+    })

@@ -15,7 +15,7 @@ use Rattle.read_arguments.specs.Answers.{step_in}
 use Rattle.read_arguments.proofs.Names.{same_name, in_text}
 use Rattle.read_statements.specs.Answers.{reading_at, one_before, next_then, NextFurther}
 use Rattle.read_statements.proofs.Whole.{refused_as, first_word, between_crowded, at_finish, from_further}
-use Rattle.read_statements.proofs.next_statement.Goals.{After-first_token-token, After-named-name, After-next-1}
+use Rattle.read_statements.proofs.next_statement.Goals.{After-first_token-token, After-named-name, Else-token-ne-WORD, then-n-ge256-via-then-n-ge256, then-n-ge256-via-else-n-ge256+then-token-ne-WORD}
 use Rattle.read_statements.proofs.next_statement.Goals as goal
 
 -- what the token's kind tells
@@ -24,14 +24,14 @@ here d = known _ _ d.first_token-token.result d.first_token-token.ensures.stands
 
 -- a word stands there
 word_at :
-    (m : After-next-1)
+    (m : Else-token-ne-WORD)
     → Reads m.args.text.now
     m.first_token-token.ensures.place
     (token m.first_token-token.result.start
     (word (part m.args.text.now
     m.first_token-token.result.start m.first_token-token.result.next.at)))
     m.first_token-token.result.next.at
-word_at m = known-word (here (goal.at.After-next-1 m).After-first_token-token) m.if-token-ne-WORD.false
+word_at m = known-word (here (goal.at.Else-token-ne-WORD m).After-first_token-token) m.if-token-ne-WORD.false
 
 word-here :
     (m : After-named-name)
@@ -41,7 +41,7 @@ word-here :
     (word (part m.args.text.now
     m.first_token-token.result.start m.first_token-token.result.next.at)))
     m.first_token-token.result.next.at
-word-here m = word_at (goal.at.After-named-name m).After-next-1
+word-here m = word_at (goal.at.After-named-name m).Else-token-ne-WORD
 
 -- reading from the word on is reading the statement that it opens, and then on
 opened-here :
@@ -79,32 +79,25 @@ returns-then-n-ge256 c =
     let a = c.args in
     let f = c.first_token-token.ensures in record {
       at_value = f.same a.limit a.n
-          ∙ between_crowded a.limit _ a.n _ c.first_token-token.result (here (goal.at.returns-then-n-ge256 c).After-first_token-token) f.other c.if-token-eq-END.false (λ e. c.if-n-ge256.true)
+          ∙ between_crowded a.limit _ a.n _ c.first_token-token.result (here (goal.at.returns-then-n-ge256 c).After-first_token-token) f.other c.if-token-eq-END.false
+          (λ e.
+          elim c.then-n-ge256.branch [
+            | then-n-ge256-via-then-n-ge256 w ↦ w.if-n-ge256.true
+            | then-n-ge256-via-else-n-ge256+then-token-ne-WORD w ↦ absurd (w.if-token-ne-WORD.true e)
+          ])
           ∙ ap refused_as (sym c.crowded.ensures);
-      next_further = tt;
-    }
-
-pub returns-then-token-ne-WORD : goal.returns-then-token-ne-WORD
-unfolding next_then NextFurther
-returns-then-token-ne-WORD c =
-    let a = c.args in
-    let f = c.first_token-token.ensures in record {
-      at_value = f.same a.limit a.n
-          ∙ between_crowded a.limit _ a.n _ c.first_token-token.result (here (goal.at.returns-then-token-ne-WORD c).After-first_token-token) f.other c.if-token-eq-END.false
-          (λ e. absurd (c.if-token-ne-WORD.true e))
-          ∙ ap refused_as (sym c.crowded-then-token-ne-WORD.ensures);
       next_further = tt;
     }
 
 pub named-name-requires : goal.named-name-requires
 named-name-requires c =
-    let r = word_at (goal.at.named-name-requires c).After-next-1 in
+    let r = word_at (goal.at.named-name-requires c).Else-token-ne-WORD in
     omega (arith, r.wide)
 
 pub statement-requires : goal.statement-requires
 statement-requires c =
     let p = c.requires in
-    (p.0, p.1, p.2, in_text _ c.first_token-token.result c.named-name.ensures (word_at (goal.at.statement-requires c).After-next-1), c.if-n-ge256.false)
+    (p.0, p.1, p.2, in_text _ c.first_token-token.result c.named-name.ensures (word_at (goal.at.statement-requires c).Else-token-ne-WORD), c.if-n-ge256.false)
 
 pub returns : goal.returns
 returns c =

@@ -8,12 +8,13 @@ use Rattle.tokens.specs.Token.{word}
 use Rattle.reading.specs.Syntax.{State, more, let_keyword, keyword, opened}
 use Rattle.read_forms.specs.Items.{name_in}
 use Rattle.read_arguments.specs.Answers.{read_in, step_in}
+use Rattle.std.specs.Prelude.{Ok, Err}
+use Rattle.std.proofs.Common.{rules}
 use Rattle.read_syntax.specs.declared.Head.{Head}
-use Rattle.read_syntax.specs.declared.CallRead.TheVariants as callRead
-use Rattle.read_syntax.specs.Answers.{call_then, CallFurther}
+use Rattle.read_syntax.specs.Answers.{call_made, call_then, CallFurther}
 use Rattle.read_statements.specs.Answers.{one_before, next_then, NextFrom}
 use Rattle.read_statements.proofs.Whole.{from_sooner}
-use Rattle.read_statements.proofs.statement.Goals.{After-read_call, In-Call}
+use Rattle.read_statements.proofs.statement.Goals.{After-read_call, In_ok-call}
 use Rattle.read_statements.proofs.statement.Goals as goal
 
 either_state :
@@ -39,22 +40,22 @@ told d =
 
 -- where the statement that was read ends
 further :
-    (d : In-Call)
+    (d : In_ok-call)
     → let a = d.args in
-    CallFurther a.text.now a.cur.at (callRead.Call d.in-Call.head d.in-Call.args d.in-Call.next)
-further d = subst (CallFurther _ _) d.in-Call.is d.read_call.ensures.call_further
+    CallFurther a.text.now a.cur.at (Ok d.in_ok-call.call)
+further d = subst (CallFurther _ _) d.in_ok-call.was d.read_call.ensures.call_further
 
 pub feature_statement-requires : goal.feature_statement-requires
 unfolding CallFurther
 feature_statement-requires c =
     let p = c.requires in
-    let f = further (goal.at.feature_statement-requires c).In-Call in record { classes_value = (p.0, p.1, p.2); in_text = (p.3, f.2, p.4, f.1) }
+    let f = further (goal.at.feature_statement-requires c).In_ok-call in record { classes_value = (p.0, p.1, p.2); in_text = (p.3, f.2, p.4, f.1) }
 
 pub let_statement-requires : goal.let_statement-requires
 unfolding CallFurther
 let_statement-requires c =
     let p = c.requires in
-    let f = further (goal.at.let_statement-requires c).In-Call in
+    let f = further (goal.at.let_statement-requires c).In_ok-call in
     (p.0, f.2.first, p.4, f.1)
 
 pub returns-in-Feature : goal.returns-in-Feature
@@ -62,13 +63,14 @@ unfolding call_then CallFurther
 returns-in-Feature c =
     let a = c.args in
     let s = a.text.now in
-    let f = further (goal.at.returns-in-Feature c).In-Call in record {
+    let f = further (goal.at.returns-in-Feature c).In_ok-call in record {
       at_value = ap (one_before a.limit (length s) a.n)
           (told (goal.at.returns-in-Feature c).After-read_call
           ∙ ap (call_then a.limit s (name_in s a.name))
-          (c.in-Call.is ∙ ap (λ (h : Head). callRead.Call h c.in-Call.args c.in-Call.next) c.in-Feature.is))
+          c.in_ok-call.was
+          ∙ ap (λ (h : Head). step_in a.limit s (call_made a.limit s (name_in s a.name) h c.in_ok-call.call.args) c.in_ok-call.call.next.at) c.in-Feature.is)
           ∙ c.feature_statement.ensures.at_value;
-      next_from = from_sooner s (suc a.cur.at) c.in-Call.next.at c.feature_statement.result c.feature_statement.ensures.next_from f.0;
+      next_from = from_sooner s (suc a.cur.at) c.in_ok-call.call.next.at c.feature_statement.result c.feature_statement.ensures.next_from f.0;
     }
 
 pub returns-in-Let : goal.returns-in-Let
@@ -76,17 +78,24 @@ unfolding call_then CallFurther
 returns-in-Let c =
     let a = c.args in
     let s = a.text.now in
-    let f = further (goal.at.returns-in-Let c).In-Call in record {
+    let f = further (goal.at.returns-in-Let c).In_ok-call in record {
       at_value = ap (one_before a.limit (length s) a.n)
           (told (goal.at.returns-in-Let c).After-read_call
           ∙ ap (call_then a.limit s (name_in s a.name))
-          (c.in-Call.is ∙ ap (λ (h : Head). callRead.Call h c.in-Call.args c.in-Call.next) c.in-Let.is))
+          c.in_ok-call.was
+          ∙ ap (λ (h : Head). step_in a.limit s (call_made a.limit s (name_in s a.name) h c.in_ok-call.call.args) c.in_ok-call.call.next.at) c.in-Let.is)
           ∙ c.let_statement.ensures.by_index a.limit;
-      next_from = from_sooner s (suc a.cur.at) c.in-Call.next.at c.let_statement.result c.let_statement.ensures.next_from f.0;
+      next_from = from_sooner s (suc a.cur.at) c.in_ok-call.call.next.at c.let_statement.result c.let_statement.ensures.next_from f.0;
     }
 
-pub returns-in-Refused : goal.returns-in-Refused
+pub returns-in_err-call : goal.returns-in_err-call
 unfolding call_then next_then NextFrom
-returns-in-Refused c =
+returns-in_err-call c =
     let a = c.args in
-    let s = a.text.now in record { at_value = ap (one_before a.limit (length s) a.n) (told (goal.at.returns-in-Refused c).After-read_call ∙ ap (call_then a.limit s (name_in s a.name)) c.in-Refused.is); next_from = tt }
+    let s = a.text.now in
+    let wrong : c.from_residual.result ≡ Err c.in_err-call.field-0.0 = search rules in
+    rw wrong
+    (record {
+      at_value = ap (one_before a.limit (length s) a.n) (told (goal.at.returns-in_err-call c).After-read_call ∙ ap (call_then a.limit s (name_in s a.name)) c.in_err-call.was);
+      next_from = tt;
+    })

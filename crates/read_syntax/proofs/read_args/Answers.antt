@@ -1,10 +1,10 @@
 -- `read_syntax::read_args` meets its contract. The invariant: arguments were read that are held, none of a LET, and reading from the first is reading
 -- on from here behind them. Assumes nothing.
+use Rattle.std.specs.Prelude.{Ok, Err}
 use Prim.Native.Nat.{◌+◌, ◌<◌, ◌≤◌}
 use mathlib.Core.Path.{◌≡◌, refl, ◌∙◌, ap, sym, subst}
 use mathlib.Core.Bool.{true, false}
 use mathlib.Core.List.{List, [], ◌∷◌, ◌++◌}
-use mathlib.Core.Logic.{⊎_elim}
 use native.Mathlib.Omega.{arith}
 use borrow.Author.Rules.{rules}
 use borrow.Author.Tests.{eq-eqb, ne_eqb}
@@ -21,7 +21,7 @@ use Rattle.read_arguments.specs.Answers.{read_in, step_in, arg_then, ArgFurther,
 use Rattle.read_syntax.specs.Answers.{call_of, takes_one, call_then, CallFurther}
 use Rattle.read_syntax.proofs.Going.{misplaced_then, comma-one, comma-more, closed-made, empty-one, empty-none, empty_some}
 use Rattle.read_syntax.proofs.Held.{args_of, added_at, added, Holds, none-held, none-fit, added-fit, added-held}
-use Rattle.read_syntax.proofs.read_args.Goals.{After-after_argument, After-argument, At-loop-arg, In-Arg, In-Close, In-Comma, Joined-count, in-0, in-1, in-2, in-3, in_default}
+use Rattle.read_syntax.proofs.read_args.Goals.{After-after_argument, After-argument, At-loop-arg, In-Arg, In-Close, In-Comma, Joined-count, in-0, in-1, in-2, in-3, in_default, then-one-2-via-then-one-2, then-one-2-via-else-one-2+then-count-ne0}
 use Rattle.read_syntax.proofs.read_args.Goals as goal
 
 -- the arguments before one is read, and where it is in its place
@@ -85,13 +85,13 @@ beyond e k =
     let s = a.text.now in
     let call = call_of s k a.head e.loop-arg.invariant.before in
     told (goal.at.After-after_argument e).After-argument k
-    ∙ ap (arg_then a.limit s call) e.in-Arg.is
+    ∙ ap (arg_then a.limit s call) (e.in_ok-arg.was ∙ ap Ok e.in-Arg.is)
     ∙ e.after_argument.ensures.by_index a.limit call (arg_in s e.in-Arg.arg)
 
 further :
     (d : In-Arg)
-    → ArgFurther d.args.text.now d.loop-arg.from.at (argRead.Arg d.in-Arg.arg d.in-Arg.end)
-further d = subst (ArgFurther _ _) d.in-Arg.is d.argument.ensures.arg_further
+    → ArgFurther d.args.text.now d.loop-arg.from.at (Ok (argRead.Arg d.in-Arg.arg d.in-Arg.end))
+further d = subst (ArgFurther _ _) (d.in_ok-arg.was ∙ ap Ok d.in-Arg.is) d.argument.ensures.arg_further
 
 -- what is held where the argument is in its place
 abbrev read_now : Joined-count → List argument.Arg
@@ -148,7 +148,7 @@ returns-then-one c =
     let q = misplaced_then a.limit a.cur.at c.in-Comma.o c.in-Comma.next.at s c.misplaced_at.result c.misplaced_at.ensures in record {
       at_value = (λ k.
           beyond (goal.at.returns-then-one c).After-after_argument k
-          ∙ ap (after_then a.limit s (call_of s k a.head g.before) x) c.in-Comma.is
+          ∙ ap (after_then a.limit s (call_of s k a.head g.before) x) (c.in_ok-o-in-Arg.was ∙ ap Ok c.in-Comma.is)
           ∙ ap (λ (t : Step). step_in a.limit s t c.in-Comma.next.at)
           (comma-one s k c.in-Comma.o a.head g.before x (sym c.takes_one-one.ensures ∙ c.if-one.true))
           ∙ q.0 k);
@@ -163,7 +163,7 @@ past-comma :
 unfolding ArgFurther AfterFurther
 past-comma d =
     let f = further (goal.at.In-Comma d).In-Arg in
-    let h = subst (AfterFurther _ _) d.in-Comma.is d.after_argument.ensures.after_further in
+    let h = subst (AfterFurther _ _) (d.in_ok-o-in-Arg.was ∙ ap Ok d.in-Comma.is) d.after_argument.ensures.after_further in
     (omega (arith, f.0, h.0), h.1)
 
 pub loop-arg-smaller : goal.loop-arg-smaller
@@ -184,36 +184,44 @@ loop-arg-preserved c =
       alone = λ q. let z : true ≡ false = sym q ∙ many in cc;
       same = λ k.
           beyond (goal.at.loop-arg-preserved c).After-after_argument k
-          ∙ ap (after_then a.limit s (call_of s k a.head g.before) x) c.in-Comma.is
+          ∙ ap (after_then a.limit s (call_of s k a.head g.before) x) (c.in_ok-o-in-Arg.was ∙ ap Ok c.in-Comma.is)
           ∙ ap (λ (t : Step). step_in a.limit s t c.in-Comma.next.at) (comma-more s k c.in-Comma.o a.head g.before x many);
       fit = fit_now (goal.at.loop-arg-preserved c).Joined-count;
       few = omega (arith, f.0, g.few);
       past = omega (arith, f.0, g.past);
     }
 
-pub returns-in-Close-after_argument : goal.returns-in-Close-after_argument
+pub returns-in-Close-2 : goal.returns-in-Close-2
 unfolding ArgFurther after_then AfterFurther call_then CallFurther
-returns-in-Close-after_argument c =
+returns-in-Close-2 c =
     let a = c.args in
     let s = a.text.now in
     let g = c.loop-arg.invariant in
     let x = c.in-Arg.arg in
-    let f = further (goal.at.returns-in-Close-after_argument c).In-Arg in
-    let h = subst (AfterFurther _ _) c.in-Close-after_argument.is c.after_argument.ensures.after_further in record {
+    let f = further (goal.at.returns-in-Close-2 c).In-Arg in
+    let h = subst (AfterFurther _ _) (c.in_ok-o-in-Arg.was ∙ ap Ok c.in-Close-2.is) c.after_argument.ensures.after_further in record {
       at_value = (λ k.
-          beyond (goal.at.returns-in-Close-after_argument c).After-after_argument k
-          ∙ ap (after_then a.limit s (call_of s k a.head g.before) (arg_in s x)) c.in-Close-after_argument.is
-          ∙ ap (λ (t : Step). step_in a.limit s t c.in-Close-after_argument.next.at)
-          (closed-made s k a.limit a.head (held_now (goal.at.returns-in-Close-after_argument c).Joined-count) x g.before (held_now_lem (goal.at.returns-in-Close-after_argument c).Joined-count) g.alone));
-      call_further = (omega (arith, f.0, g.past, h.0), h.1, fit_now (goal.at.returns-in-Close-after_argument c).Joined-count);
+          beyond (goal.at.returns-in-Close-2 c).After-after_argument k
+          ∙ ap (after_then a.limit s (call_of s k a.head g.before) (arg_in s x)) (c.in_ok-o-in-Arg.was ∙ ap Ok c.in-Close-2.is)
+          ∙ ap (λ (t : Step). step_in a.limit s t c.in-Close-2.next.at)
+          (closed-made s k a.limit a.head (held_now (goal.at.returns-in-Close-2 c).Joined-count) x g.before (held_now_lem (goal.at.returns-in-Close-2 c).Joined-count) g.alone));
+      call_further = (omega (arith, f.0, g.past, h.0), h.1, fit_now (goal.at.returns-in-Close-2 c).Joined-count);
     }
 
-pub returns-in-Refused-after_argument : goal.returns-in-Refused-after_argument
+pub returns-in_err-o-in-Arg : goal.returns-in_err-o-in-Arg
 unfolding after_then call_then CallFurther
-returns-in-Refused-after_argument c =
+returns-in_err-o-in-Arg c =
     let a = c.args in
     let s = a.text.now in
-    let x = arg_in s c.in-Arg.arg in record { at_value = (λ k. beyond (goal.at.returns-in-Refused-after_argument c).After-after_argument k ∙ ap (after_then a.limit s (call_of s k a.head c.loop-arg.invariant.before) x) c.in-Refused-after_argument.is); call_further = tt }
+    let x = arg_in s c.in-Arg.arg in
+    let told : c.from_residual-in_err-o-in-Arg.result ≡ Err c.in_err-o-in-Arg.field-0.0 = search rules in
+    rw told
+    (record {
+      at_value = λ k.
+          beyond (goal.at.returns-in_err-o-in-Arg c).After-after_argument k
+          ∙ ap (after_then a.limit s (call_of s k a.head c.loop-arg.invariant.before) x) c.in_err-o-in-Arg.was;
+      call_further = tt;
+    })
 
 -- how reading goes on from a `)` in the place of an argument
 shut :
@@ -226,31 +234,22 @@ unfolding arg_then
 shut d k =
     let a = d.args in
     let s = a.text.now in
-    told (goal.at.In-Close d).After-argument k ∙ ap (arg_then a.limit s (call_of s k a.head d.loop-arg.invariant.before)) d.in-Close.is
+    told (goal.at.In-Close d).After-argument k ∙ ap (arg_then a.limit s (call_of s k a.head d.loop-arg.invariant.before)) (d.in_ok-arg.was ∙ ap Ok d.in-Close.is)
 
 pub returns-then-one-2 : goal.returns-then-one-2
 returns-then-one-2 c =
     let a = c.args in
     let s = a.text.now in
+    let g = c.loop-arg.invariant in
     let q = misplaced_then a.limit a.cur.at c.in-Close.o c.in-Close.next.at s c.misplaced_at-then-one-2.result c.misplaced_at-then-one-2.ensures in record {
       at_value = (λ k.
           shut (goal.at.returns-then-one-2 c).In-Close k
           ∙ ap (λ (t : Step). step_in a.limit s t c.in-Close.next.at)
-          (empty-one s k a.limit c.in-Close.o a.head c.loop-arg.invariant.before (sym c.takes_one-one.ensures ∙ c.if-one-2.true))
-          ∙ q.0 k);
-      call_further = q.1;
-    }
-
-pub returns-then-count-ne0 : goal.returns-then-count-ne0
-returns-then-count-ne0 c =
-    let a = c.args in
-    let s = a.text.now in
-    let g = c.loop-arg.invariant in
-    let q = misplaced_then a.limit a.cur.at c.in-Close.o c.in-Close.next.at s c.misplaced_at-then-count-ne0.result c.misplaced_at-then-count-ne0.ensures in record {
-      at_value = (λ k.
-          shut (goal.at.returns-then-count-ne0 c).In-Close k
-          ∙ ap (λ (t : Step). step_in a.limit s t c.in-Close.next.at)
-          (empty_some s k a.limit c.in-Close.o a.head (held_before (goal.at.returns-then-count-ne0 c).At-loop-arg) g.before g.held c.if-count-ne0.true)
+          (elim c.then-one-2.branch [
+            | then-one-2-via-then-one-2 w ↦ empty-one s k a.limit c.in-Close.o a.head g.before (sym c.takes_one-one.ensures ∙ w.if-one-2.true)
+            | then-one-2-via-else-one-2+then-count-ne0 w ↦
+                empty_some s k a.limit c.in-Close.o a.head (held_before (goal.at.returns-then-one-2 c).At-loop-arg) g.before g.held w.if-count-ne0.true
+          ])
           ∙ q.0 k);
       call_further = q.1;
     }
@@ -261,7 +260,7 @@ returns-in-Close c =
     let a = c.args in
     let s = a.text.now in
     let g = c.loop-arg.invariant in
-    let f = subst (ArgFurther s c.loop-arg.from.at) c.in-Close.is c.argument.ensures.arg_further in record {
+    let f = subst (ArgFurther s c.loop-arg.from.at) (c.in_ok-arg.was ∙ ap Ok c.in-Close.is) c.argument.ensures.arg_further in record {
       at_value = (λ k.
           shut (goal.at.returns-in-Close c).In-Close k
           ∙ ap (λ (t : Step). step_in a.limit s t c.in-Close.next.at)
@@ -270,8 +269,16 @@ returns-in-Close c =
       call_further = (omega (arith, f.0, g.past), f.1, g.fit);
     }
 
-pub returns-in-Refused : goal.returns-in-Refused
+pub returns-in_err-arg : goal.returns-in_err-arg
 unfolding arg_then call_then CallFurther
-returns-in-Refused c =
+returns-in_err-arg c =
     let a = c.args in
-    let s = a.text.now in record { at_value = (λ k. told (goal.at.returns-in-Refused c).After-argument k ∙ ap (arg_then a.limit s (call_of s k a.head c.loop-arg.invariant.before)) c.in-Refused.is); call_further = tt }
+    let s = a.text.now in
+    let wrong : c.from_residual.result ≡ Err c.in_err-arg.field-0.0 = search rules in
+    rw wrong
+    (record {
+      at_value = λ k.
+          told (goal.at.returns-in_err-arg c).After-argument k
+          ∙ ap (arg_then a.limit s (call_of s k a.head c.loop-arg.invariant.before)) c.in_err-arg.was;
+      call_further = tt;
+    })

@@ -1,6 +1,8 @@
 -- `read_text::count_from` meets its contract. The invariant: the statements of the text are so many and those from here on. Assumes nothing.
+use Rattle.std.specs.Prelude.{Some, None, Ok, Err}
+use Rattle.std.proofs.Common.{rules}
 use Prim.Native.Nat.{ℕ, suc}
-use mathlib.Core.Path.{◌∙◌, ap, sym, subst}
+use mathlib.Core.Path.{◌≡◌, ◌∙◌, ap, sym, subst}
 use native.Mathlib.Omega.{arith}
 use native.Mathlib.Nat.{add-zero}
 use native.Mathlib.Numerals.{add-one}
@@ -9,67 +11,56 @@ use Rattle.reading.specs.Read.{between}
 use Rattle.read_forms.specs.Forms.{statement_in}
 use Rattle.read_statements.specs.Answers.{reading_at, next_then, NextFurther}
 use Rattle.reading.specs.Calls.{counted}
-use Rattle.read_text.specs.Answers.{count_as}
 use Rattle.reading_laws.proofs.Calls.{counted-more}
+use Rattle.read_text.proofs.count_from.Goals.{In-Some}
 use Rattle.read_text.proofs.count_from.Goals as goal
 
-pub loop-c-init : goal.loop-c-init
-loop-c-init c = record { same = rw c.new-cur.ensures; few = omega arith }
+further :
+    (d : In-Some)
+    → NextFurther d.args.text.now d.loop-read.count d.loop-read.cur.at (Ok (Some d.in-Some.read))
+further d = subst (NextFurther _ _ _) (d.in_ok-read.was ∙ ap Ok d.in-Some.is) d.next_statement.ensures.next_further
 
-pub next_statement-requires : goal.next_statement-requires
-next_statement-requires c =
-    let p = c.requires in
-    (p.0, p.1, p.2, c.loop-c.invariant.few)
-
-pub overflow_add-n : goal.overflow_add-n
+pub overflow_add-count : goal.overflow_add-count
 unfolding NextFurther
-overflow_add-n c =
-    let a = c.args in
-    let s = a.text.now in
-    let g = c.loop-c.invariant in
-    let f = subst (NextFurther s c.loop-c.n c.loop-c.cur.at) c.in-Statement.is c.next_statement.ensures.next_further in
-    omega (arith, f.0, f.1, g.few)
+overflow_add-count c = let f = further (goal.at.overflow_add-count c).In-Some in record { fits = omega (arith, f.0, f.1, c.loop-read.invariant.few) }
 
-pub loop-c-smaller : goal.loop-c-smaller
+pub loop-read-smaller : goal.loop-read-smaller
 unfolding NextFurther
-loop-c-smaller c =
-    let a = c.args in
-    let s = a.text.now in
-    let g = c.loop-c.invariant in
-    let f = subst (NextFurther s c.loop-c.n c.loop-c.cur.at) c.in-Statement.is c.next_statement.ensures.next_further in
-    omega (arith, f.0, f.1)
+loop-read-smaller c = let f = further (goal.at.loop-read-smaller c).In-Some in omega (arith, f.0, f.1)
 
-pub loop-c-preserved : goal.loop-c-preserved
+pub loop-read-preserved : goal.loop-read-preserved
 unfolding next_then NextFurther
-loop-c-preserved c =
+loop-read-preserved c =
     let a = c.args in
     let s = a.text.now in
-    let g = c.loop-c.invariant in
-    let f = subst (NextFurther s c.loop-c.n c.loop-c.cur.at) c.in-Statement.is c.next_statement.ensures.next_further in
+    let g = c.loop-read.invariant in
+    let f = further (goal.at.loop-read-preserved c).In-Some in
+    let n = c.in-Some.read in
     record {
       same =
           g.same
-          ∙ ap (counted c.loop-c.n) (c.next_statement.ensures.at_value ∙ ap (next_then a.limit s c.loop-c.n) c.in-Statement.is)
-          ∙ counted-more c.loop-c.n (statement_in s c.in-Statement.field-0) (reading_at a.limit s (suc c.loop-c.n) between c.in-Statement.c.at)
-          ∙ ap (λ (k : ℕ). counted k (reading_at a.limit s k between c.in-Statement.c.at)) (sym (add-one c.loop-c.n));
+          ∙ ap (counted c.loop-read.count) (c.next_statement.ensures.at_value ∙ ap (next_then a.limit s c.loop-read.count) (c.in_ok-read.was ∙ ap Ok c.in-Some.is))
+          ∙ counted-more c.loop-read.count (statement_in s n.statement) (reading_at a.limit s (suc c.loop-read.count) between n.cursor.at)
+          ∙ ap (λ (k : ℕ). counted k (reading_at a.limit s k between n.cursor.at)) (sym (add-one c.loop-read.count));
       few = omega (arith, f.0, g.few);
     }
 
-pub returns-in-End : goal.returns-in-End
-unfolding next_then count_as
-returns-in-End c =
+pub returns : goal.returns
+unfolding next_then
+returns c =
     let a = c.args in
     let s = a.text.now in
     sym
-    (c.loop-c.invariant.same
-    ∙ ap (counted c.loop-c.n) (c.next_statement.ensures.at_value ∙ ap (next_then a.limit s c.loop-c.n) c.in-End.is)
-    ∙ ap accepted (add-zero c.loop-c.n)
-    )
+    (c.loop-read.invariant.same
+    ∙ ap (counted c.loop-read.count) (c.next_statement.ensures.at_value ∙ ap (next_then a.limit s c.loop-read.count) (c.in_ok-read.was ∙ ap Ok c.in_default.is))
+    ∙ ap accepted (add-zero c.loop-read.count))
 
-pub returns-in-Refused : goal.returns-in-Refused
-unfolding next_then count_as
-returns-in-Refused c =
+pub returns-in_err-read : goal.returns-in_err-read
+unfolding next_then
+returns-in_err-read c =
     let a = c.args in
     let s = a.text.now in
-    let g = c.loop-c.invariant in
-    sym (g.same ∙ ap (counted c.loop-c.n) (c.next_statement.ensures.at_value ∙ ap (next_then a.limit s c.loop-c.n) c.in-Refused.is))
+    let g = c.loop-read.invariant in
+    let told : c.from_residual.result ≡ Err c.in_err-read.field-0.0 = search rules in
+    rw told
+    (sym (g.same ∙ ap (counted c.loop-read.count) (c.next_statement.ensures.at_value ∙ ap (next_then a.limit s c.loop-read.count) c.in_err-read.was)))

@@ -12,8 +12,8 @@ pub record Gone (s : List ℕ) (limit n cur : ℕ) : Type 0 where
   pub same : counted 0 (reading_at limit s 0 between 0) ≡ counted n (reading_at limit s n between cur)
   pub few : n ≤ cur
 
-abbrev pub invariant-loop-c : goal.invariant-loop-c
-invariant-loop-c l = Gone l.text l.limit l.n l.cur.at
+abbrev pub invariant-loop-read : goal.invariant-loop-read
+invariant-loop-read l = Gone l.text l.limit l.count l.cur.at
 
-abbrev pub decreases-loop-c : goal.decreases-loop-c
-decreases-loop-c l = length l.text - l.cur.at
+abbrev pub decreases-loop-read : goal.decreases-loop-read
+decreases-loop-read l = length l.text - l.cur.at

@@ -8,8 +8,6 @@ loop-i-preserved g c =
     let ps = c.args.packed.now in
     let ys = c.args.records.now in
     let i = c.loop-i.i in
-    let lp : i < length ps = omega arith in
-    let ly : i < length ys = omega arith in (
-      omega arith,
-      rw (c.loop-i.invariant.1, c.record_in-e.ensures, add-one) (one_more g.U.Unpacks.unpack ps ys i lp ly),
-    )
+    let lp : i < length ps = c.loop-i-test.true in
+    let ly : i < length ys = omega (arith, lp, c.requires) in
+    rw (c.loop-i.invariant, c.unpacked.ensures, add-one) (one_more g.R.Unpacks.unpack ps ys i lp ly)

@@ -3,10 +3,10 @@ use borrow.Author.Rules.{rules}
 use Rattle.resolve_settling.specs.Answers.{resolved_as}
 use Rattle.resolve_call.proofs.effect_count.Goals as goal
 
-pub returns-in-Lengths : goal.returns-in-Lengths
+pub returns-in-Ok : goal.returns-in-Ok
 unfolding resolved_as
-returns-in-Lengths c = search rules
+returns-in-Ok c = search rules
 
-pub returns-in-Refused : goal.returns-in-Refused
+pub returns-in-Err : goal.returns-in-Err
 unfolding resolved_as
-returns-in-Refused c = search rules
+returns-in-Err c = search rules

@@ -1,5 +1,6 @@
 -- `resolve_call::resolve_short` meets its contract: what the statements bring is taken, and then merged and grouped. Assumes nothing.
-use mathlib.Core.Path.{refl, subst}
+use Rattle.std.specs.Prelude as prelude
+use mathlib.Core.Path.{refl, ◌∙◌, ap}
 use native.Mathlib.Omega.{arith}
 use Rattle.print_writing.proofs.Writing.{same-room}
 use Rattle.resolve_context.proofs.Meaning.{handed-heads_fit}
@@ -14,14 +15,14 @@ use Rattle.resolve_call.proofs.resolve_short.Goals as goal
 pub take_text-requires : goal.take_text-requires
 take_text-requires c = let p = c.requires in (p.0, p.1, p.2, p.3)
 
-pub returns-in-Refused : goal.returns-in-Refused
+pub returns-in-Err : goal.returns-in-Err
 unfolding AttemptAs TakenAs resolved_as
-returns-in-Refused c =
-    refused_answers _ _ _ (rw c.in-Refused.is at c.take_text.ensures) refl
+returns-in-Err c =
+    refused_answers _ _ _ (rw (c.in_ok-tally.was ∙ ap prelude.Some c.in-Err.is) at c.take_text.ensures) refl
 
-pub returns-in-Full : goal.returns-in-Full
+pub returns-in_err-tally : goal.returns-in_err-tally
 unfolding AttemptAs
-returns-in-Full c = (refl, refl)
+returns-in_err-tally c = rw c.from_residual.ensures (refl, refl)
 
 -- more terms than scans are for
 pub returns-then-tally-gt-FEW_TERMS : goal.returns-then-tally-gt-FEW_TERMS
@@ -32,13 +33,13 @@ pub read_layout-requires : goal.read_layout-requires
 unfolding TakenAs
 read_layout-requires c =
     let a = c.args in
-    let h = rw c.in-Tally.is at c.take_text.ensures in
+    let h = rw (c.in_ok-tally.was ∙ ap prelude.Some c.in-Ok.is) at c.take_text.ensures in
     handed-heads_fit a.block.now a.lists.now h.handed
 
 pub settle_few-requires : goal.settle_few-requires
 unfolding TakenAs
 settle_few-requires c =
-    let h = rw c.in-Tally.is at c.take_text.ensures in (
+    let h = rw (c.in_ok-tally.was ∙ ap prelude.Some c.in-Ok.is) at c.take_text.ensures in (
       c.requires.1,
       c.requires.2,
       record { is = h.handed; there = c.read_layout.ensures },
@@ -55,6 +56,6 @@ shape_of-work c =
 pub returns : goal.returns
 unfolding TakenAs
 returns c =
-    let h = rw c.in-Tally.is at c.take_text.ensures in
+    let h = rw (c.in_ok-tally.was ∙ ap prelude.Some c.in-Ok.is) at c.take_text.ensures in
     same-few _ _ _ _ _ _ _ _ c.settle_few.result (text_resolved h refl c.requires.4)
     (c.settle_few.ensures.0 (text-there h refl c.requires.4))

@@ -1,6 +1,6 @@
 -- `resolve_context::check` meets its contract: the answer is by `stands`. Assumes nothing.
 use mathlib.Core.Path.{sym, ap, ◌∙◌}
-use Rattle.resolve_context.specs.declared.Checked.TheVariants.{Context}
+use Rattle.std.specs.Prelude as prelude
 use Rattle.resolve_context.proofs.Meaning.{is_context, is-wrong, handed-heads_fit}
 use Rattle.resolve_context.proofs.check.Goals as goal
 
@@ -12,7 +12,7 @@ read_layout-requires c =
 pub returns-then-stands : goal.returns-then-stands
 returns-then-stands c =
     let a = c.args in
-    ap Context c.read_layout.ensures
+    ap prelude.Some c.read_layout.ensures
     ∙ sym (is_context a.block.now a.lists.now (sym c.stands.ensures ∙ c.if-stands.true))
 
 pub returns : goal.returns

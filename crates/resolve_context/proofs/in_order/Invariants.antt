@@ -1,15 +1,11 @@
--- What the loop keeps, and what it counts down.
+-- What the loop keeps.
+use Prim.Native.Nat.{◌+◌, ◌*◌, ◌-◌}
 use mathlib.Core.Path.{◌≡◌}
-use Prim.Native.Nat.{◌+◌, ◌*◌, ◌≤◌}
-use lib.ListN.{length}
 use Rattle.resolving.specs.Given.{in_order}
 use Rattle.resolving.specs.Handed.{pairs_at}
 use Rattle.resolve_context.proofs.in_order.Given as goal
 
-abbrev pub invariant-loop-left : goal.invariant-loop-left
-invariant-loop-left l =
-    (l.at + l.names.step * l.left ≤ length l.lists)
-    × (in_order l.block l.end (pairs_at l.lists l.at l.names.step l.left) ≡ in_order l.block 0 (pairs_at l.lists l.names.start l.names.step l.names.count))
-
-abbrev pub decreases-loop-left : goal.decreases-loop-left
-decreases-loop-left l = l.left
+abbrev pub invariant-loop-i : goal.invariant-loop-i
+invariant-loop-i l =
+    let n = l.names in
+    in_order l.block l.end (pairs_at l.lists (n.start + n.step * l.i) n.step (n.count - l.i)) ≡ in_order l.block 0 (pairs_at l.lists n.start n.step n.count)

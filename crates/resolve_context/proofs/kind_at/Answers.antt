@@ -6,4 +6,4 @@ use Rattle.resolve_context.proofs.kind_at.Goals as goal
 
 pub returns : goal.returns
 returns c =
-    c.kind_of.ensures ∙ ap kind_of (sym (kind-is c.args.lists.now c.args.names c.args.index c.requires.0))
+    c.from.ensures ∙ ap kind_of (sym (kind-is c.args.lists.now c.args.names c.args.index c.requires.0))

@@ -1,42 +1,40 @@
--- `resolve_context::kinds_fit` meets its contract: in each turn, all kinds fit if those that are left do, and one fewer is left. Assumes nothing.
-use mathlib.Core.Path.{refl, sym, ◌∙◌}
+-- `resolve_context::kinds_fit` meets its contract. The invariant: each kind fits if each of those not yet looked at does. Assumes nothing.
+use mathlib.Core.Path.{◌≡◌, sym, ◌∙◌, ap, ap₂}
+use mathlib.Core.Bool.{◌&&◌}
+use mathlib.Core.List.{List}
+use Prim.Native.Nat.{ℕ, ◌+◌, ◌*◌, ◌-◌, ◌<◌}
 use native.Mathlib.Omega.{arith}
 use borrow.Author.Tests.{le-leb, lt-leb}
+use lib.Dec.{leb}
+use lib.ListN.{get_or}
+use Rattle.text.specs.Bytes.{every}
 use Rattle.resolve_context.specs.Lists.{kinds_in}
-use Rattle.resolve_context.proofs.Pairs.{kinds-more, kinds-none}
+use Rattle.resolve_context.proofs.Pairs.{kinds_at, kinds-more, kinds-none}
 use Rattle.resolve_context.proofs.kinds_fit.Goals as goal
 
-pub loop-left-init : goal.loop-left-init
-loop-left-init c = (c.requires, refl)
+-- one kind looked at, and the others
+one : (l : List ℕ) (start n i : ℕ) → i < n
+    → every (λ k. leb k 1) (kinds_at l (start + 3 * i) (n - i))
+    ≡ leb (get_or l (start + 3 * i + 2) 0) 1 && every (λ k. leb k 1) (kinds_at l (start + 3 * (i + 1)) (n - (i + 1)))
+one l start n i h =
+    let at : start + 3 * i + 3 ≡ start + 3 * (i + 1) = omega arith in
+    let less : n - i - 1 ≡ n - (i + 1) = omega arith in
+    ap (every (λ k. leb k 1)) (kinds-more l (start + 3 * i) (n - i) (omega arith))
+    ∙ ap₂ (λ (a m : ℕ). leb (get_or l (start + 3 * i + 2) 0) 1 && every (λ k. leb k 1) (kinds_at l a m)) at less
 
-pub returns-then-lists-at-gt1 : goal.returns-then-lists-at-gt1
+pub returns-then-lists-names-gt1 : goal.returns-then-lists-names-gt1
 unfolding kinds_in
-returns-then-lists-at-gt1 c =
-    let l = c.loop-left in
-    sym (sym l.invariant.1 ∙ rw (kinds-more _ l.at l.left (omega arith), lt-leb _ 1 c.if-lists-at-gt1.true))
+returns-then-lists-names-gt1 c =
+    let n = c.args.names in
+    sym (sym c.loop-i.invariant ∙ rw (one c.args.lists.now n.start n.count c.loop-i.i c.loop-i-test.true, lt-leb _ 1 c.if-lists-names-gt1.true))
 
-pub loop-left-preserved : goal.loop-left-preserved
-loop-left-preserved c =
-    let l = c.loop-left in
-    (omega arith, sym (sym l.invariant.1 ∙ rw (kinds-more _ l.at l.left (omega arith), le-leb _ 1 c.if-lists-at-gt1.false)))
+pub loop-i-preserved : goal.loop-i-preserved
+loop-i-preserved c =
+    let n = c.args.names in
+    sym (sym c.loop-i.invariant ∙ rw (one c.args.lists.now n.start n.count c.loop-i.i c.loop-i-test.true, le-leb _ 1 c.if-lists-names-gt1.false))
 
 pub returns : goal.returns
 unfolding kinds_in
 returns c =
-    let l = c.loop-left in
-    sym (sym l.invariant.1 ∙ rw (kinds-none _ l.at l.left (omega arith)))
-
-pub overflow_add-at : goal.overflow_add-at
-overflow_add-at c = omega arith
-
-pub bounds-lists-at : goal.bounds-lists-at
-bounds-lists-at c = omega arith
-
-pub overflow_add-at-in-loop-left : goal.overflow_add-at-in-loop-left
-overflow_add-at-in-loop-left c = omega arith
-
-pub overflow_sub-left : goal.overflow_sub-left
-overflow_sub-left c = omega arith
-
-pub loop-left-smaller : goal.loop-left-smaller
-loop-left-smaller c = omega arith
+    let n = c.args.names in
+    sym (sym c.loop-i.invariant ∙ rw (kinds-none c.args.lists.now (n.start + 3 * c.loop-i.i) (n.count - c.loop-i.i) (omega (arith, c.loop-i-test.false))))

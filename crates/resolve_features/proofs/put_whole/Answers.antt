@@ -17,10 +17,10 @@ use Rattle.print_writing.specs.Written.{Room}
 use Rattle.print_writing.proofs.Writing.{room-same}
 use Rattle.print_writing.proofs.Going.{going, further, finished, room-left, room-first}
 use Rattle.resolve_grounding.specs.Whole.{WholeParts}
-use Rattle.resolve_features.specs.declared.Alone.TheVariants as argument
+use Rattle.std.specs.Prelude as prelude
 use Rattle.resolve_features.specs.Stays.{AloneAs, alone_bytes}
 use Rattle.resolve_features.proofs.Staying.{whole_of, alone_bytes_lem}
-use Rattle.resolve_features.proofs.put_whole.Goals.{After-put_joint-next, After-whole_parts-parts, In-Modes, Start}
+use Rattle.resolve_features.proofs.put_whole.Goals.{After-put_joint-next, After-whole_parts-parts, In-Some, Start}
 use Rattle.resolve_features.proofs.put_whole.Goals as goal
 
 abbrev whole_bytes : Start → List ℕ
@@ -36,24 +36,24 @@ left-room c = room-left {left = whole_bytes (goal.at.After-put_joint-next c).Sta
 
 -- Modes alone.
 alone_parts :
-    (c : In-Modes)
-    → AloneAs c.args.feature (argument.Modes c.in-Modes.keyword c.in-Modes.family c.in-Modes.modes)
+    (c : In-Some)
+    → AloneAs c.args.feature (prelude.Some (c.in-Some.keyword, c.in-Some.family, c.in-Some.modes))
 alone_parts c =
-    subst (AloneAs c.args.feature) c.in-Modes.is c.alone_of.ensures
+    subst (AloneAs c.args.feature) c.in-Some.is c.alone_of.ensures
 
 alone-same :
-    (c : In-Modes)
-    → whole_bytes (goal.at.In-Modes c).Start ≡ alone_bytes c.in-Modes.keyword c.in-Modes.family c.in-Modes.modes
+    (c : In-Some)
+    → whole_bytes (goal.at.In-Some c).Start ≡ alone_bytes c.in-Some.keyword c.in-Some.family c.in-Some.modes
 alone-same c =
     alone_bytes_lem c.args.text.now c.args.feature _ _ _ (alone_parts c).0
 
 pub put_alone-requires : goal.put_alone-requires
 put_alone-requires c =
-    (c.requires.1, c.requires.2, (alone_parts (goal.at.put_alone-requires c).In-Modes).1, room-same c.put_joint-next.result (alone-same (goal.at.put_alone-requires c).In-Modes) (left-room (goal.at.put_alone-requires c).After-put_joint-next))
+    (c.requires.1, c.requires.2, (alone_parts (goal.at.put_alone-requires c).In-Some).1, room-same c.put_joint-next.result (alone-same (goal.at.put_alone-requires c).In-Some) (left-room (goal.at.put_alone-requires c).After-put_joint-next))
 
-pub returns-in-Modes : goal.returns-in-Modes
-returns-in-Modes c =
-    finished (further (going _ _ _) c.put_joint-next.ensures) (rw (alone-same (goal.at.returns-in-Modes c).In-Modes) c.put_alone.ensures)
+pub returns-in-Some : goal.returns-in-Some
+returns-in-Some c =
+    finished (further (going _ _ _) c.put_joint-next.ensures) (rw (alone-same (goal.at.returns-in-Some c).In-Some) c.put_alone.ensures)
 
 made : (c : After-whole_parts-parts) → WholeParts (apart (statement.Feature c.args.feature)) c.whole_parts-parts.result
 made c =
@@ -78,6 +78,6 @@ put_parts-requires c =
       room-same c.put_joint-next.result (parts_same (goal.at.put_parts-requires c).After-whole_parts-parts) (left-room (goal.at.put_parts-requires c).After-put_joint-next),
     )
 
-pub returns-in-Other : goal.returns-in-Other
-returns-in-Other c =
-    finished (further (going _ _ _) c.put_joint-next.ensures) (rw (parts_same (goal.at.returns-in-Other c).After-whole_parts-parts) c.put_parts.ensures)
+pub returns-in-None : goal.returns-in-None
+returns-in-None c =
+    finished (further (going _ _ _) c.put_joint-next.ensures) (rw (parts_same (goal.at.returns-in-None c).After-whole_parts-parts) c.put_parts.ensures)

@@ -1,5 +1,7 @@
 -- `resolve_features::stay_variables` meets its contract: what the operand answered is refused, or its indexes are too few, or they are written.
 -- Assumes nothing.
+use Rattle.read_forms.specs.declared.Fault.{Fault}
+use Rattle.std.proofs.lemmas.Result.{err_from_is_err_and}
 use Prim.Native.Nat.{ℕ, ◌≤◌}
 use mathlib.Core.Path.{◌≡◌, refl, sym, subst}
 use mathlib.Core.List.{List}
@@ -13,7 +15,7 @@ use Rattle.resolving.specs.Handed.{handed_context}
 use Rattle.resolve_context.specs.declared.Layout.{Layout}
 use Rattle.resolve_context.specs.Lists.{names_in, Stands, layout_of}
 use Rattle.resolve_context.proofs.Meaning.{handed-heads_fit, parameters-are, parameters_sound}
-use Rattle.resolve_operands.specs.declared.Entries.{Entries}
+use Rattle.std.specs.Prelude as prelude
 use Rattle.resolve_operands.specs.Picked.{Indexes, Picked}
 use Rattle.resolve_operands.specs.Entries.{EntriesAs, parameters_in}
 use Rattle.canonical.specs.Lines.{joint_of}
@@ -23,7 +25,7 @@ use Rattle.resolve_grounding.specs.Listed.{variable_bytes}
 use Rattle.resolve_grounding.proofs.Sizes.{whole-few, variables_short}
 use Rattle.resolve_features.specs.Stays.{VariablesAs}
 use Rattle.resolve_features.proofs.Variables.{picked_many, names-short, piece-small, piece-room}
-use Rattle.resolve_features.proofs.stay_variables.Goals.{After-parameters_of, After-read_layout-layout, Else-count-least, In-Count, Start}
+use Rattle.resolve_features.proofs.stay_variables.Goals.{After-parameters_of, After-read_layout-layout, Else-count-least, In_ok-count, Start}
 use Rattle.resolve_features.proofs.stay_variables.Goals as goal
 
 abbrev start : After-parameters_of → Start
@@ -39,45 +41,47 @@ module _ (p : After-parameters_of) where
       let a = p.args in
       parameters_in a.text.now a.lets.now a.n a.block.now a.lists.now a.star.now a.parameters
 
-  looked : {r : Entries} → p.parameters_of.result ≡ r → EntriesAs (layout_of p.args.lists.now).parameters.count operand lent r
+  looked : {r : prelude.Result ℕ Fault} → p.parameters_of.result ≡ r → EntriesAs (layout_of p.args.lists.now).parameters.count operand lent r
   looked e =
       subst (EntriesAs (layout_of p.args.lists.now).parameters.count operand lent) e p.parameters_of.ensures
 
-pub returns-in-Refused : goal.returns-in-Refused
+pub returns-in_err-count : goal.returns-in_err-count
 unfolding VariablesAs
-returns-in-Refused c = (looked (goal.at.returns-in-Refused c).After-parameters_of c.in-Refused.is, refl)
+returns-in_err-count c =
+    let p = err_from_is_err_and c.from_residual.result c.from_residual.ensures.1 in
+    rw (p.1, p.2) (looked (goal.at.returns-in_err-count c).After-parameters_of c.in_err-count.was, refl)
 
 -- it has indexes
-module _ (k : In-Count) where
+module _ (k : In_ok-count) where
   abbrev answered : After-parameters_of
-  answered = (goal.at.In-Count k).After-parameters_of
+  answered = (goal.at.In_ok-count k).After-parameters_of
 
   abbrev count : ℕ
-  count = k.in-Count.count
+  count = k.in_ok-count.count
 
   abbrev list : List ℕ
   list = take count (lent answered)
 
   picked : Picked (layout_of answered.args.lists.now).parameters.count (operand answered) (lent answered) count
-  picked = looked answered k.in-Count.is
+  picked = looked answered k.in_ok-count.was
 
 pub returns-then-count-least : goal.returns-then-count-least
 unfolding VariablesAs
 returns-then-count-least c =
     record {
-      indexes = list (goal.at.returns-then-count-least c).In-Count;
-      found = (picked (goal.at.returns-then-count-least c).In-Count).found;
-      tooFew = lt-ltb (length (list (goal.at.returns-then-count-least c).In-Count)) (start (answered (goal.at.returns-then-count-least c).In-Count)).args.least (omega (arith, c.if-count-least.true, picked_many (picked (goal.at.returns-then-count-least c).In-Count)));
+      indexes = list (goal.at.returns-then-count-least c).In_ok-count;
+      found = (picked (goal.at.returns-then-count-least c).In_ok-count).found;
+      tooFew = lt-ltb (length (list (goal.at.returns-then-count-least c).In_ok-count)) (start (answered (goal.at.returns-then-count-least c).In_ok-count)).args.least (omega (arith, c.if-count-least.true, picked_many (picked (goal.at.returns-then-count-least c).In_ok-count)));
       same = refl;
     }
 
-abbrev own : In-Count → List ℕ
+abbrev own : In_ok-count → List ℕ
 own k =
     let a = (start (answered k)).args in
     variable_bytes a.keyword a.optional (handed_context a.block.now a.lists.now).parameters (list k) a.family
     (whole a.family (modes_in a.modes)) a.named
 
-own-short : (k : In-Count) → length (own k) ≤ 20000
+own-short : (k : In_ok-count) → length (own k) ≤ 20000
 own-short k =
     let s = start (answered k) in
     let a = s.args in
@@ -91,18 +95,18 @@ own-short k =
 
 -- behind the tests
 abbrev begun : Else-count-least → Start
-begun e = start (answered (goal.at.Else-count-least e).In-Count)
+begun e = start (answered (goal.at.Else-count-least e).In_ok-count)
 
 pub put_joint-next-requires : goal.put_joint-next-requires
 put_joint-next-requires c =
     let s = begun (goal.at.put_joint-next-requires c).Else-count-least in
-    room-first (joint_of s.args.before) (own (goal.at.put_joint-next-requires c).In-Count) (piece-room s.args.before (own (goal.at.put_joint-next-requires c).In-Count) (own-short (goal.at.put_joint-next-requires c).In-Count) s.args.at s.requires.7)
+    room-first (joint_of s.args.before) (own (goal.at.put_joint-next-requires c).In_ok-count) (piece-room s.args.before (own (goal.at.put_joint-next-requires c).In_ok-count) (own-short (goal.at.put_joint-next-requires c).In_ok-count) s.args.at s.requires.7)
     (going s.args.out.now s.args.at _)
 
 -- with the layout
 module _ (y : After-read_layout-layout) where
-  abbrev told : In-Count
-  told = (goal.at.After-read_layout-layout y).In-Count
+  abbrev told : In_ok-count
+  told = (goal.at.After-read_layout-layout y).In_ok-count
 
   abbrev top : Start
   top = start (answered told)

@@ -4,18 +4,12 @@ use mathlib.Core.Path.{sym}
 use native.Mathlib.Omega.{arith}
 use Rattle.resolve_context.specs.Lists.{names_in}
 use Rattle.print_writing.proofs.Writing.{room-same}
-use Rattle.print_writing.proofs.Going.{going, as_long}
+use Rattle.print_writing.proofs.Going.{going}
 use Rattle.resolve_grounding.proofs.Names.{none_left, name-room, comma-room, name-put}
 use Rattle.resolve_grounding.proofs.put_names_at.Goals as goal
 
 pub loop-i-init : goal.loop-i-init
-loop-i-init c = (omega arith, going _ _ _)
-
-pub bounds-list-i : goal.bounds-list-i
-bounds-list-i c = c.loop-i-test.true
-
-pub overflow_cast-list : goal.overflow_cast-list
-overflow_cast-list c = omega (arith, c.type_inv.list c.loop-i.i)
+loop-i-init c = going _ _ _
 
 pub name_at-name-requires : goal.name_at-name-requires
 name_at-name-requires c =
@@ -25,36 +19,21 @@ pub put_all-next-requires : goal.put_all-next-requires
 put_all-next-requires c =
     room-same c.loop-i.next (sym c.name_at-name.ensures)
     (name-room (names_in c.args.block.now c.args.lists.now c.args.names) c.args.list.now c.loop-i.i
-    c.loop-i-test.true c.loop-i.invariant.1 c.requires.2)
+    c.loop-i-test.true c.loop-i.invariant c.requires.2)
 
 pub put_comma-next-requires : goal.put_comma-next-requires
 put_comma-next-requires c =
     comma-room (names_in c.args.block.now c.args.lists.now c.args.names) c.args.list.now c.loop-i.i
-    c.loop-i-test.true c.loop-i.invariant.1
+    c.loop-i-test.true c.loop-i.invariant
     (rw c.name_at-name.ensures at c.put_all-next.ensures) c.requires.2
 
-pub overflow_sub-list : goal.overflow_sub-list
-overflow_sub-list c = omega (arith, c.loop-i-test.true)
-
-pub overflow_add-i : goal.overflow_add-i
-overflow_add-i c =
-    omega (arith, c.loop-i-test.true, c.requires.1.few)
-
-pub loop-i-smaller : goal.loop-i-smaller
-loop-i-smaller c = omega (arith, c.loop-i-test.true)
-
 pub loop-i-preserved : goal.loop-i-preserved
-loop-i-preserved c = (
-  omega (arith, c.loop-i-test.true),
-  name-put (names_in c.args.block.now c.args.lists.now c.args.names) c.args.list.now c.loop-i.i
-      c.loop-i-test.true c.loop-i.invariant.1
-      (rw c.name_at-name.ensures at c.put_all-next.ensures) c.put_comma-next.ensures,
-)
-
-pub shape_of-out : goal.shape_of-out
-shape_of-out c = as_long c.loop-i.invariant.1
+loop-i-preserved c =
+    name-put (names_in c.args.block.now c.args.lists.now c.args.names) c.args.list.now c.loop-i.i
+    c.loop-i-test.true c.loop-i.invariant
+    (rw c.name_at-name.ensures at c.put_all-next.ensures) c.put_comma-next.ensures
 
 pub returns : goal.returns
 returns c =
     none_left (names_in c.args.block.now c.args.lists.now c.args.names) c.args.list.now c.loop-i.i
-    (omega (arith, c.loop-i-test.false, c.loop-i.invariant.0)) c.loop-i.invariant.1
+    (omega (arith, c.loop-i-test.false)) c.loop-i.invariant

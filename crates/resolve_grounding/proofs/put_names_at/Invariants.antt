@@ -1,6 +1,5 @@
--- What the loop keeps, and what it counts down.
-use Prim.Native.Nat.{◌≤◌, ◌-◌}
-use lib.ListN.{length, drop}
+-- What the loop keeps.
+use lib.ListN.{drop}
 use Rattle.resolve_context.specs.Lists.{names_in}
 use Rattle.print_writing.proofs.Going.{Going}
 use Rattle.resolve_grounding.specs.Listed.{listed_bytes}
@@ -8,9 +7,5 @@ use Rattle.resolve_grounding.proofs.put_names_at.Given as goal
 
 abbrev pub invariant-loop-i : goal.invariant-loop-i
 invariant-loop-i l =
-    (l.i ≤ length l.list)
-    × Going l.initial.out l.at (listed_bytes (names_in l.block l.lists l.names) l.list) l.out l.next
+    Going l.initial.out l.at (listed_bytes (names_in l.block l.lists l.names) l.list) l.out l.next
     (listed_bytes (names_in l.block l.lists l.names) (drop l.i l.list))
-
-abbrev pub decreases-loop-i : goal.decreases-loop-i
-decreases-loop-i l = length l.list - l.i

@@ -11,7 +11,7 @@ use Rattle.resolving.specs.Effects.{Effect}
 use Rattle.resolving.specs.Ground.{ground_effects}
 use Rattle.resolving.specs.Handed.{handed_context}
 use Rattle.print_writing.specs.Written.{Room}
-use Rattle.print_writing.proofs.Going.{going, told, further, no_more, as_long, room-first}
+use Rattle.print_writing.proofs.Going.{going, told, further, no_more, room-first}
 use Rattle.resolve_merging.specs.Packing.{effect_of}
 use Rattle.resolve_groups.proofs.Groups.{left_from, group_bytes, group-next, none-next, group-entered, groups-room, parameters-many, covariates-many, parameters-short, covariates-short}
 use Rattle.resolve_groups.proofs.put_groups.Goals.{In-loop-j, Start}
@@ -25,10 +25,8 @@ abbrev effects_of : Start → List Effect
 effects_of s = map effect_of (take s.args.count s.args.work.now)
 
 pub loop-j-init : goal.loop-j-init
-loop-j-init c = (
-  omega arith,
-  told (ap (λ (n : ℕ). left_from (context_of (goal.at.loop-j-init c).Start) (effects_of (goal.at.loop-j-init c).Start) n 0) (omega arith)) (going _ _ _),
-)
+loop-j-init c =
+    told (ap (λ (n : ℕ). left_from (context_of (goal.at.loop-j-init c).Start) (effects_of (goal.at.loop-j-init c).Start) n 0) (omega arith)) (going _ _ _)
 
 -- there are at most 256 groups
 index_below : (t : In-loop-j) → t.loop-j.j < 256
@@ -63,7 +61,7 @@ overflow_add-before c =
 
 pub put_joint-next-requires : goal.put_joint-next-requires
 put_joint-next-requires c =
-    room-first (joint_of (c.args.before + c.loop-j.j)) _ (room_for-all (goal.at.put_joint-next-requires c).Start) (told (group-ahead (goal.at.put_joint-next-requires c).In-loop-j) c.loop-j.invariant.1)
+    room-first (joint_of (c.args.before + c.loop-j.j)) _ (room_for-all (goal.at.put_joint-next-requires c).Start) (told (group-ahead (goal.at.put_joint-next-requires c).In-loop-j) c.loop-j.invariant)
 
 pub put_group-next-requires : goal.put_group-next-requires
 put_group-next-requires c =
@@ -76,24 +74,13 @@ put_group-next-requires c =
       omega (arith, e.0, parameters-many c.args.block.now c.args.lists.now c.args.layout c.requires.2),
       omega (arith, e.1, covariates-many c.args.block.now c.args.lists.now c.args.layout c.requires.2),
       room-first (group_bytes (context_of (goal.at.put_group-next-requires c).Start) c.args.listed.now c.loop-j.j) _ (room_for-all (goal.at.put_group-next-requires c).Start)
-          (further (told (group-ahead (goal.at.put_group-next-requires c).In-loop-j) c.loop-j.invariant.1) c.put_joint-next.ensures),
+          (further (told (group-ahead (goal.at.put_group-next-requires c).In-loop-j) c.loop-j.invariant) c.put_joint-next.ensures),
     )
-
-pub overflow_add-j : goal.overflow_add-j
-overflow_add-j c =
-    omega (arith, index_below (goal.at.overflow_add-j c).In-loop-j)
-
-pub loop-j-smaller : goal.loop-j-smaller
-loop-j-smaller c =
-    omega (arith, c.loop-j-test.true)
 
 pub loop-j-preserved : goal.loop-j-preserved
 loop-j-preserved c =
-    let j = told (group-ahead (goal.at.loop-j-preserved c).In-loop-j) c.loop-j.invariant.1 in
-    (omega (arith, c.loop-j-test.true), further (further j c.put_joint-next.ensures) c.put_group-next.ensures)
-
-pub shape_of-out : goal.shape_of-out
-shape_of-out c = as_long c.loop-j.invariant.1
+    let j = told (group-ahead (goal.at.loop-j-preserved c).In-loop-j) c.loop-j.invariant in
+    further (further j c.put_joint-next.ensures) c.put_group-next.ensures
 
 pub returns : goal.returns
 returns c =
@@ -101,25 +88,10 @@ returns c =
     (told
     (none-next (context_of (goal.at.returns c).Start) c.args.work.now c.args.listed.now c.args.count c.args.groups c.requires.3 (c.args.before + c.loop-j.j) c.loop-j.j
     (omega (arith, c.loop-j-test.false)))
-    c.loop-j.invariant.1)
-
-pub overflow_mul-group : goal.overflow_mul-group
-overflow_mul-group c = omega (arith, index_below (goal.at.overflow_mul-group c).In-loop-j)
-
-pub offset_bounds-listed-j : goal.offset_bounds-listed-j
-offset_bounds-listed-j c = omega (arith, index_below (goal.at.offset_bounds-listed-j c).In-loop-j)
+    c.loop-j.invariant)
 
 pub bounds-listed-j : goal.bounds-listed-j
 bounds-listed-j c = omega (arith, index-room (goal.at.bounds-listed-j c).In-loop-j)
-
-pub overflow_mul-packed : goal.overflow_mul-packed
-overflow_mul-packed c = omega (arith, index_below (goal.at.overflow_mul-packed c).In-loop-j)
-
-pub overflow_add-packed : goal.overflow_add-packed
-overflow_add-packed c = omega (arith, index_below (goal.at.overflow_add-packed c).In-loop-j)
-
-pub offset_bounds-listed-j-in-loop-j : goal.offset_bounds-listed-j-in-loop-j
-offset_bounds-listed-j-in-loop-j c = omega (arith, index_below (goal.at.offset_bounds-listed-j-in-loop-j c).In-loop-j)
 
 pub bounds-listed-j-in-loop-j : goal.bounds-listed-j-in-loop-j
 bounds-listed-j-in-loop-j c = index-room (goal.at.bounds-listed-j-in-loop-j c).In-loop-j

@@ -1,5 +1,5 @@
--- What the loop keeps, and what it counts down.
-use Prim.Native.Nat.{◌+◌, ◌-◌, ◌≤◌}
+-- What the loop keeps.
+use Prim.Native.Nat.{◌+◌}
 use mathlib.Core.List.{map}
 use lib.ListN.{take}
 use Rattle.canonical.specs.Lines.{rest_of}
@@ -12,9 +12,5 @@ use Rattle.resolve_groups.proofs.put_groups.Given as goal
 
 abbrev pub invariant-loop-j : goal.invariant-loop-j
 invariant-loop-j l =
-    (l.j ≤ l.groups)
-    × Going l.initial.out l.at (rest_of l.before (ground_effects (handed_context l.block l.lists) (map effect_of (take l.count l.work)))) l.out l.next
+    Going l.initial.out l.at (rest_of l.before (ground_effects (handed_context l.block l.lists) (map effect_of (take l.count l.work)))) l.out l.next
     (left_from (handed_context l.block l.lists) (map effect_of (take l.count l.work)) (l.before + l.j) l.j)
-
-abbrev pub decreases-loop-j : goal.decreases-loop-j
-decreases-loop-j l = l.groups - l.j

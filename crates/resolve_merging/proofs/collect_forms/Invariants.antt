@@ -1,10 +1,6 @@
--- What the loop keeps, and what it counts down.
-use Prim.Native.Nat.{◌-◌}
+-- What the loop keeps.
 use Rattle.resolve_merging.proofs.IndexLaws.{Collecting}
 use Rattle.resolve_merging.proofs.collect_forms.Given as goal
 
 abbrev pub invariant-loop-i : goal.invariant-loop-i
 invariant-loop-i l = Collecting l.initial.work l.work l.m l.k l.i
-
-abbrev pub decreases-loop-i : goal.decreases-loop-i
-decreases-loop-i l = l.m - l.i

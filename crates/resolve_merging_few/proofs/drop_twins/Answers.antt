@@ -1,13 +1,22 @@
 -- `resolve_merging_few::drop_twins` meets its contract: if no term is mandatory, all stay.
 -- Assumes nothing.
-use mathlib.Core.Path.{sym, ◌∙◌}
+use Rattle.std.proofs.Common.{sym, ◌∙◌, take, rules, tests}
+use Rattle.std.proofs.lemmas.Iterator.{YieldsList-from_slice}
+use Rattle.std.proofs.lemmas.Iterator.Search.{any_from_yields_List}
+use Rattle.resolve_merging.proofs.Scans.{any-list_any}
+use Rattle.resolve_merging_few.specs.Sought as sought
+use Rattle.resolve_merging_few.specs.Scans.{passes_by}
 use Rattle.resolve_merging_few.proofs.Settling.{twins_left, twins_all}
 use Rattle.resolve_merging_few.proofs.drop_twins.Goals as goal
 
-pub returns-then-stands_between : goal.returns-then-stands_between
-returns-then-stands_between c = twins_left c.sift.ensures
+pub returns-then-any : goal.returns-then-any
+returns-then-any c = twins_left c.sift.ensures
 
 pub returns : goal.returns
 returns c =
-    let a = c.args in
-    twins_all a.work.now a.n (sym c.stands_between.ensures ∙ c.if-stands_between.false)
+    let run = take c.args.n c.args.work.now in
+    let test = passes_by sought.Mandatory in
+    twins_all c.args.work.now c.args.n
+    (any-list_any test run
+    ∙ sym (any_from_yields_List test _ _ c.any.result c.any.ensures.ran (YieldsList-from_slice run c.iter.ensures.rest) (λ x b q k. search (rules, tests)))
+    ∙ c.if-any.false)

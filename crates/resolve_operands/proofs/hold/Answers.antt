@@ -1,9 +1,9 @@
 -- `resolve_operands::hold` meets its contract: in each turn, what the entries so far brought is held, what is picked are their indexes, and the next entry
 -- is read at the cursor, if it stands in the text. Assumes nothing.
-use mathlib.Core.Path.{◌≡◌, sym, ap, ◌∙◌, subst}
+use mathlib.Core.Path.{◌≡◌, sym, ap, ◌∙◌, subst, subst₂}
 use mathlib.Core.List.{List}
 use mathlib.Core.Option.{some}
-use Prim.Native.Nat.{ℕ, ◌≤◌, ◌<◌}
+use Prim.Native.Nat.{ℕ, ◌+◌, ◌≤◌, ◌<◌}
 use native.Mathlib.Omega.{arith}
 use lib.ListN.{length}
 use Rattle.reading.specs.Answer.{Answer, accepted}
@@ -16,12 +16,15 @@ use Rattle.resolve_context.specs.Lists.{names_in}
 use Rattle.resolve_context.proofs.Pairs.{names-length}
 use Rattle.resolve_symbols.specs.Sources.{source_list}
 use Rattle.resolve_symbols.specs.Brings.{brought_by, named_as}
-use Rattle.resolve_operands.specs.declared.Placed.{Placed}
+use Rattle.read_forms.specs.declared.Fault.{Fault}
+use Rattle.read_forms.specs.Faults.{number_of}
+use Rattle.std.specs.Prelude as prelude
+use Rattle.std.proofs.lemmas.Result.{err_from_is_err_and}
 use Rattle.resolve_operands.specs.Picked.{Picked}
 use Rattle.resolve_operands.specs.Named.{extent_of, names_at, EntryAt, Word, PlacedAs}
-use Rattle.resolve_operands.proofs.Bringing.{brings-none, brings-pair, brings-nothing, brings-missing, brings-end}
+use Rattle.resolve_operands.proofs.Bringing.{HeldSoFar, brings-none, brings-pair, brings-nothing, brings-missing, brings-end}
 use Rattle.resolve_operands.proofs.Naming.{all_named, extent_few, first_read}
-use Rattle.resolve_operands.proofs.hold.Goals.{After-place_of, At-loop-i, In-At, In-loop-i, Start}
+use Rattle.resolve_operands.proofs.hold.Goals.{After-place_of, At-loop-i, In-Some, In-loop-i, Start, in-Some, in_default}
 use Rattle.resolve_operands.proofs.hold.Goals as goal
 
 abbrev begun : At-loop-i → Start
@@ -75,7 +78,6 @@ loop-i-init c = (
   brings-none (entries (goal.at.loop-i-init c).Start) (each (goal.at.loop-i-init c).Start) _ c.requires.4,
   subst (λ (x : Items). EntryAt c.args.text.now c.args.source 0 x.first.at) (sym c.extent_of-extent.ensures)
       (first_read c.args.text.now c.args.layout c.args.source),
-  omega arith,
 )
 
 pub next_name-here-requires : goal.next_name-here-requires
@@ -97,22 +99,22 @@ module _ (c : After-place_of) where
   abbrev names : List (List ℕ)
   names = named_as top.args.text.now top.args.block.now c.next_name-here.result.named
 
-  looked_up : {r : Placed} → c.place_of.result ≡ r → PlacedAs (entries top) names r
+  looked_up : {r : prelude.Result (prelude.Option ℕ) Fault} → c.place_of.result ≡ r → PlacedAs (entries top) names r
   looked_up e = subst (PlacedAs (entries top) names) e c.place_of.ensures
 
   -- what the entry brings
   here : {ws : List (List ℕ)} → names ≡ ws → each top turn.loop-i.i ≡ ws
   here e = sym c.next_name-here.ensures.same ∙ e
 
-placed : (p : In-At) → Word (entries (top (goal.at.In-At p).After-place_of)) (names (goal.at.In-At p).After-place_of) (some p.in-At.place)
-placed p = looked_up (goal.at.In-At p).After-place_of p.in-At.is
+placed : (p : In-Some) → Word (entries (top (goal.at.In-Some p).After-place_of)) (names (goal.at.In-Some p).After-place_of) (some p.in-Some.place)
+placed p = looked_up (goal.at.In-Some p).After-place_of (p.in_ok-found.was ∙ ap prelude.Ok p.in-Some.is)
 
-place-small : (p : In-At) → p.in-At.place < 64
+place-small : (p : In-Some) → p.in-Some.place < 64
 place-small p =
-    let s = top (goal.at.In-At p).After-place_of in
+    let s = top (goal.at.In-Some p).After-place_of in
     omega (
       arith,
-      place-below (same_bytes (placed p).word) (entries s) p.in-At.place (placed p).found,
+      place-below (same_bytes (placed p).word) (entries s) p.in-Some.place (placed p).found,
       entries-many s,
       s.requires.3.few,
     )
@@ -122,52 +124,43 @@ push_index-n-requires c =
     let t = turn (goal.at.push_index-n-requires c).After-place_of in
     (t.loop-i.invariant.0.size, (room t).0)
 
-pub loop-i-preserved-in-At : goal.loop-i-preserved-in-At
-loop-i-preserved-in-At c =
-    let t = turn (goal.at.loop-i-preserved-in-At c).After-place_of in
-    let e = c.push_index-n.ensures in (
-      brings-pair (entries (top (goal.at.loop-i-preserved-in-At c).After-place_of)) (each (top (goal.at.loop-i-preserved-in-At c).After-place_of)) t.loop-i.indexes t.loop-i.n t.loop-i.i t.loop-i.invariant.0 _ _
-          (placed (goal.at.loop-i-preserved-in-At c).In-At).word c.in-At.place (here (goal.at.loop-i-preserved-in-At c).After-place_of (placed (goal.at.loop-i-preserved-in-At c).In-At).are) (placed (goal.at.loop-i-preserved-in-At c).In-At).found e.0 e.1 e.2 (room t).0,
-      c.next_name-here.ensures.behind,
-      omega (arith, t.loop-i-test.true),
-    )
-
-pub returns-in-Missing : goal.returns-in-Missing
-returns-in-Missing c =
-    let t = turn (goal.at.returns-in-Missing c).After-place_of in
-    let w = looked_up (goal.at.returns-in-Missing c).After-place_of c.in-Missing.is in
-    sym (as_source (top (goal.at.returns-in-Missing c).After-place_of))
-    ∙ brings-missing (entries (top (goal.at.returns-in-Missing c).After-place_of)) (each (top (goal.at.returns-in-Missing c).After-place_of)) t.loop-i.indexes t.loop-i.n t.loop-i.i t.loop-i.invariant.0 w.word (all (top (goal.at.returns-in-Missing c).After-place_of)) (below t)
-    (here (goal.at.returns-in-Missing c).After-place_of w.are) w.found
+pub returns-in_err-found : goal.returns-in_err-found
+returns-in_err-found c =
+    let t = turn (goal.at.returns-in_err-found c).After-place_of in
+    let w = looked_up (goal.at.returns-in_err-found c).After-place_of c.in_err-found.was in
+    let p = err_from_is_err_and c.from_residual.result c.from_residual.ensures.1 in
+    rw (p.1, p.2, ap number_of w.0) (sym (as_source (top (goal.at.returns-in_err-found c).After-place_of))
+    ∙ brings-missing (entries (top (goal.at.returns-in_err-found c).After-place_of)) (each (top (goal.at.returns-in_err-found c).After-place_of)) t.loop-i.indexes t.loop-i.n t.loop-i.i t.loop-i.invariant.0 w.1.word (all (top (goal.at.returns-in_err-found c).After-place_of)) (below t)
+    (here (goal.at.returns-in_err-found c).After-place_of w.1.are) w.1.found)
 
 pub loop-i-preserved : goal.loop-i-preserved
 loop-i-preserved c =
-    let t = turn (goal.at.loop-i-preserved c).After-place_of in (
-      brings-nothing (entries (top (goal.at.loop-i-preserved c).After-place_of)) (each (top (goal.at.loop-i-preserved c).After-place_of)) t.loop-i.indexes t.loop-i.n t.loop-i.i t.loop-i.invariant.0
-          (here (goal.at.loop-i-preserved c).After-place_of (looked_up (goal.at.loop-i-preserved c).After-place_of c.in-NoName.is)),
+    let d = (goal.at.loop-i-preserved c).After-place_of in
+    let t = turn d in
+    let es = entries (top d) in
+    let ns = each (top d) in
+    let next = λ (is : List ℕ) (n : ℕ). HeldSoFar es ns is n (t.loop-i.i + 1) in (
+      elim c.match-found.branch [
+        | in-Some w ↦
+            let word : Word es (names d) (some w.in-Some.place) = looked_up d (c.in_ok-found.was ∙ ap prelude.Ok w.in-Some.is) in
+            let e = w.push_index-n.ensures in
+            subst₂ next (sym w.indexes-is) (sym w.n-is)
+            (brings-pair es ns t.loop-i.indexes t.loop-i.n t.loop-i.i t.loop-i.invariant.0 _ _ word.word w.in-Some.place (here d word.are) word.found
+            e.0 e.1 e.2 (room t).0)
+        | in_default w ↦
+            subst₂ next (sym w.indexes-is) (sym w.n-is)
+            (brings-nothing es ns t.loop-i.indexes t.loop-i.n t.loop-i.i t.loop-i.invariant.0 (here d (looked_up d (c.in_ok-found.was ∙ ap prelude.Ok w.in_default.is))))
+      ],
       c.next_name-here.ensures.behind,
-      omega (arith, t.loop-i-test.true),
     )
 
 pub returns : goal.returns
 returns c =
     let s = begun (goal.at.returns c).At-loop-i in
-    let last : c.loop-i.i ≡ c.extent_of-extent.result.count = omega (arith, c.loop-i-test.false, c.loop-i.invariant.2) in
+    let last : c.loop-i.i ≡ c.extent_of-extent.result.count = omega (arith, c.loop-i-test.false, c.loop-i.auto.i-end) in
     subst (λ (a : Answer (List ℕ)). Picked s.args.target.count a c.loop-i.indexes c.loop-i.n) (as_source s)
     (brings-end (entries s) (each s) c.loop-i.indexes c.loop-i.n c.loop-i.i c.loop-i.invariant.0 (all s) s.args.target.count
     (last ∙ counted (goal.at.returns c).At-loop-i) (entries-many s))
 
 pub overflow_cast-place : goal.overflow_cast-place
-overflow_cast-place c = omega (arith, place-small (goal.at.overflow_cast-place c).In-At)
-
-pub overflow_add-i : goal.overflow_add-i
-overflow_add-i c = omega (arith, (room (turn (goal.at.overflow_add-i c).After-place_of)).1)
-
-pub loop-i-smaller-in-At : goal.loop-i-smaller-in-At
-loop-i-smaller-in-At c = omega (arith, (turn (goal.at.loop-i-smaller-in-At c).After-place_of).loop-i-test.true)
-
-pub overflow_add-i-in-NoName : goal.overflow_add-i-in-NoName
-overflow_add-i-in-NoName c = omega (arith, (room (turn (goal.at.overflow_add-i-in-NoName c).After-place_of)).1)
-
-pub loop-i-smaller : goal.loop-i-smaller
-loop-i-smaller c = omega (arith, (turn (goal.at.loop-i-smaller c).After-place_of).loop-i-test.true)
+overflow_cast-place c = omega (arith, place-small (goal.at.overflow_cast-place c).In-Some)

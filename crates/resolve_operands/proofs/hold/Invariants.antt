@@ -1,12 +1,8 @@
--- What the loop keeps, and what it counts down.
-use Prim.Native.Nat.{◌-◌, ◌≤◌}
+-- What the loop keeps.
 use Rattle.resolve_context.specs.Lists.{names_in}
 use Rattle.resolve_operands.specs.Named.{names_at, EntryAt}
 use Rattle.resolve_operands.proofs.Bringing.{HeldSoFar}
 use Rattle.resolve_operands.proofs.hold.Given as goal
 
 abbrev pub invariant-loop-i : goal.invariant-loop-i
-invariant-loop-i l = HeldSoFar (names_in l.block l.lists l.target) (names_at l.text l.block l.lists l.layout l.source) l.indexes l.n l.i × EntryAt l.text l.source l.i l.cur.at × (l.i ≤ l.count)
-
-abbrev pub decreases-loop-i : goal.decreases-loop-i
-decreases-loop-i l = l.count - l.i
+invariant-loop-i l = HeldSoFar (names_in l.block l.lists l.target) (names_at l.text l.block l.lists l.layout l.source) l.indexes l.n l.i × EntryAt l.text l.source l.i l.cur.at

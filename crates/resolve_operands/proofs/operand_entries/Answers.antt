@@ -12,8 +12,8 @@ use Rattle.resolve_context.specs.declared.Layout.{Layout}
 use Rattle.resolve_context.specs.declared.Names.{Names}
 use Rattle.resolve_context.specs.Lists.{names_in, Sound, Stands, layout_of}
 use Rattle.resolve_context.proofs.Meaning.{handed-heads_fit}
-use Rattle.resolve_symbols.specs.declared.Looked.{Looked}
-use Rattle.resolve_symbols.specs.declared.Looked.TheVariants as looked
+use Rattle.resolve_symbols.specs.declared.Source.{Source}
+use Rattle.std.specs.Prelude as prelude
 use Rattle.resolve_symbols.specs.Sources.{looked_as, LookedFits}
 use Rattle.resolve_operands.specs.Entries.{EntriesAs, target_of, StandsFor, operand_names, parameters_in, covariates_in}
 use Rattle.resolve_operands.proofs.Sources.{target_sound, operand_held}
@@ -52,11 +52,11 @@ module _ (d : After-source_of) where
   sound = subst (Sound b l) (sym d.target_of-target.ensures) (target_sound b l layout layout_stands d.args.every)
 
   -- what was found, by its kind, can be read, and held to the target it is the answer
-  found-fits : (r : Looked) → d.source_of.result ≡ r → LookedFits s r
+  found-fits : (r : prelude.Option Source) → d.source_of.result ≡ r → LookedFits s r
   found-fits r e = subst (LookedFits s) e d.source_of.ensures.0
 
   found-held :
-      (r : Looked)
+      (r : prelude.Option Source)
       → d.source_of.result ≡ r
       → let a = d.args in
       held (names_in b l target) (known (looked_as (handed_context b l) s r))
@@ -66,21 +66,21 @@ module _ (d : After-source_of) where
       let a = d.args in
       ap (λ (n : Names). held (names_in b l n) (known (looked_as (handed_context b l) s r))) d.target_of-target.ensures
       ∙ operand_held b l layout layout_stands s a.lets.now a.n a.star.now a.every a.operand r
-      (subst (λ (k : Looked). StandsFor s layout k names) e d.source_of.ensures.1)
+      (subst (λ (k : prelude.Option Source). StandsFor s layout k names) e d.source_of.ensures.1)
 
 pub returns-in_default : goal.returns-in_default
 returns-in_default c =
-    sym (found-held (goal.at.returns-in_default c).After-source_of looked.Unknown c.in_default.is)
+    sym (found-held (goal.at.returns-in_default c).After-source_of prelude.None c.in_default.is)
 
 pub hold-requires : goal.hold-requires
 hold-requires c =
-    (c.requires.0, layout_stands (goal.at.hold-requires c).After-source_of, found-fits (goal.at.hold-requires c).After-source_of _ c.in-Names.is, sound (goal.at.hold-requires c).After-source_of, c.requires.4)
+    (c.requires.0, layout_stands (goal.at.hold-requires c).After-source_of, found-fits (goal.at.hold-requires c).After-source_of _ c.in-Some.is, sound (goal.at.hold-requires c).After-source_of, c.requires.4)
 
 pub returns : goal.returns
 returns c =
     let is = c.hold.new.indexes in
     subst₂ (λ (n : Names) (a : Answer (List ℕ)). EntriesAs n.count a is c.hold.result) (target_there (goal.at.returns c).After-source_of)
-    (found-held (goal.at.returns c).After-source_of (looked.Names c.in-Names.source) c.in-Names.is)
+    (found-held (goal.at.returns c).After-source_of (prelude.Some c.in-Some.source) c.in-Some.is)
     c.hold.ensures
 
 pub read_layout-layout-requires : goal.read_layout-layout-requires

@@ -5,8 +5,8 @@ use Prim.Native.Nat.{ℕ}
 use Rattle.resolve_context.specs.Lists.{names_in}
 use Rattle.resolve_symbols.specs.declared.Named.{Named}
 use Rattle.resolve_symbols.specs.Brings.{named_as, NamedFits}
-use Rattle.resolve_operands.specs.declared.Placed.{Placed}
-use Rattle.resolve_operands.specs.declared.Placed.TheVariants.{NoName}
+use Rattle.read_forms.specs.declared.Fault.{Fault}
+use Rattle.std.specs.Prelude as prelude
 use Rattle.resolve_operands.specs.Named.{PlacedAs}
 use Rattle.resolve_operands.proofs.place_of.Goals.{Start}
 use Rattle.resolve_operands.proofs.place_of.Goals as goal
@@ -16,7 +16,7 @@ module _ (start : Start) {x : Named} (e : start.args.named ≡ x) where
   fits_so = let a = start.args in subst (NamedFits a.text.now a.block.now) e start.requires.1
 
   -- what is answered of a word is answered of the name that is spelled so
-  spelled_so : (ws : List (List ℕ)) (r : Placed)
+  spelled_so : (ws : List (List ℕ)) (r : prelude.Result (prelude.Option ℕ) Fault)
       → let a = start.args in
       ws ≡ named_as a.text.now a.block.now x
       → let list = names_in a.block.now a.lists.now a.target in
@@ -48,4 +48,4 @@ pub spelling-requires-in-Block : goal.spelling-requires-in-Block
 spelling-requires-in-Block c = fits_so (goal.at.spelling-requires-in-Block c).Start c.in-Block.is
 
 pub returns-in-Nothing : goal.returns-in-Nothing
-returns-in-Nothing c = spelled_so (goal.at.returns-in-Nothing c).Start c.in-Nothing.is [] NoName refl refl
+returns-in-Nothing c = spelled_so (goal.at.returns-in-Nothing c).Start c.in-Nothing.is [] (prelude.Ok prelude.None) refl refl

@@ -2,13 +2,12 @@
 -- unless `*` is every covariate. Assumes nothing.
 use mathlib.Core.Path.{◌∙◌, ap, subst}
 use mathlib.Core.List.{List}
-use mathlib.Core.Logic.{⊎_elim}
 use Prim.Native.Nat.{ℕ}
 use Rattle.reading.specs.Answer.{Answer}
 use Rattle.resolving.specs.Context.{Context}
 use Rattle.read_forms.specs.declared.Operand.{Operand}
 use Rattle.read_parts.specs.Meaning.{OperandFits}
-use Rattle.resolve_symbols.specs.declared.Looked.TheVariants.{Names}
+use Rattle.std.specs.Prelude as prelude
 use Rattle.resolve_symbols.specs.declared.Source.TheVariants.{Values, Given}
 use Rattle.resolve_symbols.specs.declared.Listing.TheVariants.{Covariates}
 use Rattle.resolve_operands.specs.Entries.{StandsFor, star_names, operand_names}
@@ -30,7 +29,7 @@ returns-in-Names c =
     let a = c.args in
     let is = c.in-Names.items in (
       subst (OperandFits a.text.now) c.in-Names.is c.requires.1,
-      stands_same a.text.now a.layout (Names (Values is)) (names (goal.at.returns-in-Names c).Start) c.in-Names.is
+      stands_same a.text.now a.layout (prelude.Some (Values is)) (names (goal.at.returns-in-Names c).Start) c.in-Names.is
           (names_stand a.text.now a.lets.now a.n a.layout (star (goal.at.returns-in-Names c).Start) is),
     )
 
@@ -42,7 +41,7 @@ pub returns-then-every : goal.returns-then-every
 returns-then-every c =
     let a = c.args in (
       tt,
-      stands_same a.text.now a.layout (Names (Given Covariates)) (names (goal.at.returns-then-every c).Start) c.in-Wildcard.is
+      stands_same a.text.now a.layout (prelude.Some (Given Covariates)) (names (goal.at.returns-then-every c).Start) c.in-Wildcard.is
           (every-stands a.text.now a.lets.now a.n a.layout a.star.now a.every c.if-every.true),
     )
 

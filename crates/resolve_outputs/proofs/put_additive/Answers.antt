@@ -1,6 +1,6 @@
 -- `resolve_outputs::put_additive` meets its contract.
 -- Assumes nothing.
-use mathlib.Core.Path.{refl, ap}
+use mathlib.Core.Path.{ap}
 use native.Mathlib.Omega.{arith}
 use lib.ListN.{length}
 use Rattle.resolve_outputs.specs.Entries.{additive_note}
@@ -8,9 +8,3 @@ use Rattle.resolve_outputs.proofs.put_additive.Goals as goal
 
 pub bounds-notes-at : goal.bounds-notes-at
 bounds-notes-at c = omega (arith, c.requires, ap (λ t. length (additive_note t)) c.if-additive.true)
-
-pub returns-then-additive : goal.returns-then-additive
-returns-then-additive c = rw c.if-additive.true refl
-
-pub returns-else-additive : goal.returns-else-additive
-returns-else-additive c = rw c.if-additive.false refl

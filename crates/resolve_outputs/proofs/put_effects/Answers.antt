@@ -6,7 +6,7 @@ use mathlib.Core.List.{List, ◌++◌, map, map-map}
 use lib.ListN.{take, drop}
 use Rattle.resolving.specs.Call.{effect_numbers}
 use Rattle.resolve_merging.specs.Packing.{effect_of}
-use Rattle.resolve_outputs.proofs.Filling.{Filled, none_filled, filled_length, filled_inside, filled_next, filled_all}
+use Rattle.resolve_outputs.proofs.Filling.{Filled, filled_next, filled_all}
 use Rattle.resolve_outputs.proofs.put_effects.Invariants.{entry}
 use Rattle.resolve_outputs.proofs.put_effects.Goals as goal
 
@@ -18,19 +18,9 @@ effects-all :
     → now ≡ map effect_numbers (map effect_of (take count run)) ++ drop count before
 effects-all {run} {count = count} g h = rw (map-map effect_numbers effect_of (take count run)) (filled_all g h)
 
-pub loop-i-init : goal.loop-i-init
-loop-i-init c = none_filled c.requires.0 c.requires.1
-
-pub bounds-effects-i : goal.bounds-effects-i
-bounds-effects-i c =
-    filled_inside c.loop-i.invariant c.loop-i-test.true
-
 pub loop-i-preserved : goal.loop-i-preserved
 loop-i-preserved c =
-    filled_next c.loop-i.invariant c.loop-i-test.true c.effect_numbers.ensures
-
-pub shape_of-effects : goal.shape_of-effects
-shape_of-effects c = filled_length c.loop-i.invariant
+    filled_next c.loop-i.invariant 0 c.loop-i-test.true c.effect_numbers.ensures
 
 pub returns : goal.returns
 returns c = effects-all c.loop-i.invariant c.loop-i-test.false

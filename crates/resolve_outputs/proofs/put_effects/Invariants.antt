@@ -1,5 +1,5 @@
--- What the loop keeps, and what it counts down.
-use Prim.Native.Nat.{ℕ, ◌-◌}
+-- What the loop keeps.
+use Prim.Native.Nat.{ℕ}
 use mathlib.Core.List.{List}
 use Rattle.resolving.specs.Call.{effect_numbers}
 use Rattle.resolve_merging.specs.Packing.{effect_of}
@@ -11,6 +11,3 @@ entry w = effect_numbers (effect_of w)
 
 abbrev pub invariant-loop-i : goal.invariant-loop-i
 invariant-loop-i l = Filled entry l.work l.initial.effects l.count l.i l.effects
-
-abbrev pub decreases-loop-i : goal.decreases-loop-i
-decreases-loop-i l = l.count - l.i

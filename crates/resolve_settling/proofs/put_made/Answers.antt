@@ -133,7 +133,7 @@ returns c =
           (omega (arith, c.if-ground-end.false, long (goal.at.returns c).After-put_groups-end g))
           (omega (arith, k, c.if-room-count.false))
           (omega (arith, m, o, c.if-notes-remarks.false))
-          (c.put_text.ensures
+          (c.put_first.ensures
           ∙ ap₂ (λ (l : List ℕ) (i : ℕ). l ++ drop i s.args.ground.now) (front_stands whole held) (sym (long (goal.at.returns c).After-put_groups-end g)))
           (ap (λ (i : ℕ). map effect_of (take i s.args.work.now)) k ∙ g.effects)
           (c.put_notes.ensures

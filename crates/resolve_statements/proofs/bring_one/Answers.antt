@@ -1,5 +1,6 @@
 -- `resolve_statements::bring_one` meets its contract, statement by statement.
 -- Assumes nothing.
+use Rattle.read_forms.specs.declared.Fault.{Fault}
 use borrow.Enum.Refused.{opened}
 use Prim.Native.Nat.{ℕ}
 use mathlib.Core.Path.{◌≡◌, refl, ◌∙◌, ap, subst}
@@ -12,8 +13,7 @@ use Rattle.print_writing.proofs.Writing.{nothing_written}
 use Rattle.resolving.specs.Brought.{Brought, defining, bring}
 use Rattle.read_space.specs.Fit.{Fit}
 use Rattle.resolve_statements.specs.declared.Tally.{Tally}
-use Rattle.resolve_statements.specs.declared.Step.{Step}
-use Rattle.resolve_statements.specs.declared.Step.TheVariants as steps
+use Rattle.std.specs.Prelude as prelude
 use Rattle.resolve_statements.specs.Tallies.{BringAs, PrintsAs, NoneStays}
 use Rattle.resolve_statements.proofs.Stepping.{nothing-added, prints-known, prints-none}
 use Rattle.resolve_statements.proofs.Fitting.{covariate-fits, feature-fits, feature-short, not-covariate}
@@ -49,13 +49,13 @@ bring_other-requires c =
     )
 
 -- a COVARIATE prints nothing
-of_terms : (a : Answer Brought) (i : ℕ) (t : Tally) (ts ds ts' ds' out : List ℕ) (r : Step)
+of_terms : (a : Answer Brought) (i : ℕ) (t : Tally) (ts ds ts' ds' out : List ℕ) (r : prelude.Result Tally Fault)
     → BringAs a i t ts ds ts' ds' r
     → NoneStays t r
     → PrintsAs a t out out r
 unfolding BringAs NoneStays PrintsAs
-of_terms a i t ts ds ts' ds' out (steps.Next u) w e = prints-none w e.0 e.1
-of_terms a i t ts ds ts' ds' out (steps.Refused k) w e = tt
+of_terms a i t ts ds ts' ds' out (prelude.Ok u) w e = prints-none w e.0 e.1
+of_terms a i t ts ds ts' ds' out (prelude.Err k) w e = tt
 
 pub returns-in-Let : goal.returns-in-Let
 unfolding BringAs PrintsAs bring statement_in

@@ -1,6 +1,8 @@
 -- `resolve_statements::bring_other` meets its contract.
 -- Assumes nothing.
-use mathlib.Core.Path.{refl, subst}
+use Rattle.std.specs.Prelude as prelude
+use Rattle.std.proofs.lemmas.Result.{err_from_is_err_and}
+use mathlib.Core.Path.{refl, ◌∙◌, ap, subst}
 use native.Mathlib.Omega.{arith}
 use Rattle.resolve_features.specs.Stays.{StayAs}
 use Rattle.resolve_statements.specs.Tallies.{BringAs, PrintsAs}
@@ -19,16 +21,18 @@ pub note-requires : goal.note-requires
 note-requires c =
     (c.requires.8, c.requires.11)
 
-pub returns-in-Next : goal.returns-in-Next
+pub returns-in-Some : goal.returns-in-Some
 unfolding BringAs StayAs PrintsAs
-returns-in-Next c =
-    let h = subst (StayAs _ _ _ _ _) c.in-Next.is c.ground_feature.ensures in record { by_index = λ ts. statement-added c.args.index c.args.tally ts c.args.dropped.now h; prints_as = prints_stood c.args.tally.stays h }
+returns-in-Some c =
+    let h = subst (StayAs _ _ _ _ _) (c.in_ok-next.was ∙ ap prelude.Ok c.in-Some.is) c.ground_feature.ensures in record { by_index = λ ts. statement-added c.args.index c.args.tally ts c.args.dropped.now h; prints_as = prints_stood c.args.tally.stays h }
 
-pub returns-in-Dropped : goal.returns-in-Dropped
+pub returns-in-None : goal.returns-in-None
 unfolding BringAs StayAs PrintsAs
-returns-in-Dropped c =
-    let h = subst (StayAs _ _ _ _ _) c.in-Dropped.is c.ground_feature.ensures in record { by_index = λ ts. dropped-added c.args.index c.args.tally h.0 refl c.note.ensures; prints_as = prints-dropped c.args.tally.stays h.0 h.1 c.note.ensures.ground }
+returns-in-None c =
+    let h = subst (StayAs _ _ _ _ _) (c.in_ok-next.was ∙ ap prelude.Ok c.in-None.is) c.ground_feature.ensures in record { by_index = λ ts. dropped-added c.args.index c.args.tally h.0 refl c.note.ensures; prints_as = prints-dropped c.args.tally.stays h.0 h.1 c.note.ensures.ground }
 
-pub returns-in-Refused : goal.returns-in-Refused
+pub returns-in_err-next : goal.returns-in_err-next
 unfolding BringAs StayAs PrintsAs
-returns-in-Refused c = record { by_index = λ ts. (subst (StayAs _ _ _ _ _) c.in-Refused.is c.ground_feature.ensures).0; prints_as = tt }
+returns-in_err-next c =
+    let p = err_from_is_err_and c.from_residual.result c.from_residual.ensures.1 in
+    rw (p.1, p.2) (record { by_index = λ ts. (subst (StayAs _ _ _ _ _) c.in_err-next.was c.ground_feature.ensures).0; prints_as = tt })

@@ -7,10 +7,10 @@ use Rattle.resolve_symbols.proofs.parameter.Goals as goal
 
 pub pair_at-requires : goal.pair_at-requires
 pair_at-requires c =
-    (subst (FoundBelow c.args.layout.parameters.count) c.in-Place.is c.requires.1, parameters_sound _ _ _ c.requires.0)
+    (subst (FoundBelow c.args.layout.parameters.count) c.in-Some.is c.requires.1, parameters_sound _ _ _ c.requires.0)
 
-pub returns-in-Place : goal.returns-in-Place
-returns-in-Place c = rw c.in-Place.is (yields_pair _ c.pair_at.ensures.0 c.pair_at.ensures.1 refl)
+pub returns-in-Some : goal.returns-in-Some
+returns-in-Some c = rw c.in-Some.is (yields_pair _ c.pair_at.ensures.0 c.pair_at.ensures.1 refl)
 
-pub returns-in-Nothing : goal.returns-in-Nothing
-returns-in-Nothing c = rw c.in-Nothing.is (yields_nothing refl)
+pub returns-in-None : goal.returns-in-None
+returns-in-None c = rw c.in-None.is (yields_nothing refl)

@@ -1,8 +1,6 @@
 -- `resolve_symbols::put_let` meets its contract: the key lies in the text and the cursor is cut to it, so they fit into 32 bits. Assumes nothing.
 use Prim.Native.Nat.{ℕ}
 use mathlib.Core.Path.{◌∙◌, ap, sym, subst}
-use borrow.Author.Rules.{rules}
-use lib.ListN.{length-set}
 use Rattle.tokens.specs.Next.{cursor}
 use Rattle.read_forms.specs.declared.Items.{Items}
 use Rattle.read_forms.specs.Items.{items_in}
@@ -17,15 +15,6 @@ returns c =
     let p = c.requires in
     let s = a.text.now in
     let cut : ℕ → Items = λ o. record { first = cursor o; count = a.values.count } in
-    let-put s a.lets.now a.n p.0 p.1 p.2 a.name (cut c.least-cursor.result) a.values p.4
-    (subst (λ (o : ℕ). Listed s (cut o)) (sym c.least-cursor.ensures) (listed_cut s a.values p.5))
-    (ap (λ (o : ℕ). items_in s (cut o)) c.least-cursor.ensures ∙ items_cut s a.values)
-
-pub bounds-lets-at-2 : goal.bounds-lets-at-2
-bounds-lets-at-2 c = simp length-set (search rules)
-
-pub bounds-lets-at-3 : goal.bounds-lets-at-3
-bounds-lets-at-3 c = simp length-set (search rules)
-
-pub bounds-lets-at-4 : goal.bounds-lets-at-4
-bounds-lets-at-4 c = simp length-set (search rules)
+    let-put s a.lets.now a.n p.0 p.1 p.2 a.name (cut c.min-cursor.result) a.values p.4
+    (subst (λ (o : ℕ). Listed s (cut o)) (sym c.min-cursor.ensures) (listed_cut s a.values p.5))
+    (ap (λ (o : ℕ). items_in s (cut o)) c.min-cursor.ensures ∙ items_cut s a.values)

@@ -1,8 +1,7 @@
 -- What the loop keeps, and what it counts down.
-use Prim.Native.Nat.{◌-◌, ◌≤◌}
+use Prim.Native.Nat.{◌-◌}
 use mathlib.Core.Path.{◌≡◌}
 use lib.ListN.{length}
-use Rattle.resolving.specs.Symbols.{lets}
 use Rattle.resolving.specs.Brought.{bring}
 use Rattle.resolving.specs.Handed.{handed_context}
 use Rattle.resolve_operands.specs.Entries.{meaning_in}
@@ -11,20 +10,17 @@ use Rattle.resolve_taking.proofs.Gathering.{Gathering}
 use Rattle.resolve_taking.proofs.Bringing.{Bringing}
 use Rattle.resolve_taking.proofs.take_text.Given as goal
 
-abbrev pub invariant-loop-statement : goal.invariant-loop-statement
-invariant-loop-statement l = Reading l.limit l.text l.forms l.count l.cur.at l.later.at l.start l.end
+abbrev pub invariant-loop-next : goal.invariant-loop-next
+invariant-loop-next l = Reading l.limit l.text l.forms l.count l.cur.at l.later.at l.start l.end
 
-abbrev pub decreases-loop-statement : goal.decreases-loop-statement
-decreases-loop-statement l = length l.text - l.cur.at
+abbrev pub decreases-loop-next : goal.decreases-loop-next
+decreases-loop-next l = length l.text - l.cur.at
 
 abbrev pub invariant-loop-i : goal.invariant-loop-i
 invariant-loop-i l =
     Gathering l.text (text_statements l.limit l.text) l.lets l.n l.i
     × Ahead l.limit l.text (text_statements l.limit l.text) l.i l.from.at
     × (length l.lets ≡ length l.initial.lets)
-
-abbrev pub decreases-loop-i : goal.decreases-loop-i
-decreases-loop-i l = l.end - l.i
 
 abbrev pub invariant-loop-k : goal.invariant-loop-k
 invariant-loop-k l =
@@ -34,7 +30,3 @@ invariant-loop-k l =
     × (length l.out ≡ length l.initial.out)
     × (length l.terms ≡ length l.initial.terms)
     × (length l.dropped ≡ length l.initial.dropped)
-    × (l.k ≤ l.count)
-
-abbrev pub decreases-loop-k : goal.decreases-loop-k
-decreases-loop-k l = l.count - l.k

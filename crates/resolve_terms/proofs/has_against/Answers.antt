@@ -3,9 +3,7 @@
 use mathlib.Core.Path.{◌∙◌, sym}
 use native.Mathlib.Omega.{arith}
 use borrow.Author.Rules.{rules}
-use borrow.Author.Tests.{not-true, not-false}
 use Rattle.read_packs.proofs.Packed.{no_place, next_place}
-use Rattle.resolving.specs.Effects.{suits}
 use Rattle.resolve_terms.proofs.has_against.Goals as goal
 
 pub loop-left-init : goal.loop-left-init

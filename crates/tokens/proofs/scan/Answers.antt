@@ -1,7 +1,6 @@
 -- `tokens::scan` meets its contract. The invariant: a scan from here on finds what a scan of the whole text finds. Assumes nothing.
 use mathlib.Core.Path.{refl, ◌∙◌, ap, sym}
 use native.Mathlib.Omega.{arith}
-use Rattle.tokens.specs.Lex.{tokens}
 use Rattle.tokens.specs.Next.{scanned}
 use Rattle.tokens.proofs.Views.{Known, known, known_stray, known-end, known_token}
 use Rattle.tokens.proofs.scan.Goals.{After-token_after_blanks-token}

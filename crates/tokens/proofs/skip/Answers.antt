@@ -3,6 +3,10 @@ use mathlib.Core.Path.{refl, ◌∙◌}
 use mathlib.Core.Bool.{and-false}
 use native.Mathlib.Omega.{arith}
 use borrow.Author.Tests.{lt-leb}
+use Rattle.tokens.proofs.skip.Goals.{
+  then-class-lt-BLANK-via-then-class-lt-BLANK,
+  then-class-lt-BLANK-via-else-class-lt-BLANK+then-class-gt-HASH,
+}
 use Rattle.tokens.proofs.skip.Goals as goal
 
 pub loop-i-init : goal.loop-i-init
@@ -14,13 +18,11 @@ class_at-class-requires c = (c.requires, c.loop-i-test.true)
 pub returns-then-class-lt-BLANK : goal.returns-then-class-lt-BLANK
 returns-then-class-lt-BLANK c = record {
   same = c.loop-i.invariant;
-  stands = λ h. simp (← c.class_at-class.ensures, lt-leb 4 _ c.if-class-lt-BLANK.true);
-}
-
-pub returns-then-class-gt-HASH : goal.returns-then-class-gt-HASH
-returns-then-class-gt-HASH c = record {
-  same = c.loop-i.invariant;
-  stands = λ h. simp (← c.class_at-class.ensures, lt-leb _ 5 c.if-class-gt-HASH.true, and-false);
+  stands = λ h.
+      elim c.then-class-lt-BLANK.branch [
+        | then-class-lt-BLANK-via-then-class-lt-BLANK w ↦ simp (← c.class_at-class.ensures, lt-leb 4 _ w.if-class-lt-BLANK.true)
+        | then-class-lt-BLANK-via-else-class-lt-BLANK+then-class-gt-HASH w ↦ simp (← c.class_at-class.ensures, lt-leb _ 5 w.if-class-gt-HASH.true, and-false)
+      ];
 }
 
 pub passed-i-requires : goal.passed-i-requires

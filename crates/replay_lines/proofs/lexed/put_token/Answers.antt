@@ -28,3 +28,33 @@ pub returns-in-Mark : goal.returns-in-Mark
 returns-in-Mark c =
     let r = (read (goal.at.returns-in-Mark c).After-next (Mark c.in-Mark.mark c.in-Mark.start c.in-Mark.next) c.in-Mark.is).0 in
     omega (arith, r.ahead, r.wide)
+
+pub slice_bounds-put_text-count : goal.slice_bounds-put_text-count
+slice_bounds-put_text-count c =
+    let r = read (goal.at.slice_bounds-put_text-count c).After-next (Word c.in-Word.start c.in-Word.next) c.in-Word.is in
+    omega (arith, r.ahead, r.wide, r.within)
+
+pub slice_bounds-put_text-start : goal.slice_bounds-put_text-start
+slice_bounds-put_text-start c =
+    let r = read (goal.at.slice_bounds-put_text-start c).After-next (Word c.in-Word.start c.in-Word.next) c.in-Word.is in
+    omega (arith, r.ahead, r.wide, r.within)
+
+pub slice_bounds-put_text-end : goal.slice_bounds-put_text-end
+slice_bounds-put_text-end c =
+    let r = read (goal.at.slice_bounds-put_text-end c).After-next (Word c.in-Word.start c.in-Word.next) c.in-Word.is in
+    omega (arith, r.ahead, r.wide, r.within)
+
+pub slice_bounds-put_text-count-in-Number : goal.slice_bounds-put_text-count-in-Number
+slice_bounds-put_text-count-in-Number c =
+    let r = read (goal.at.slice_bounds-put_text-count-in-Number c).After-next (Number c.in-Number.start c.in-Number.next) c.in-Number.is in
+    omega (arith, r.ahead, r.wide, r.within)
+
+pub slice_bounds-put_text-start-in-Number : goal.slice_bounds-put_text-start-in-Number
+slice_bounds-put_text-start-in-Number c =
+    let r = read (goal.at.slice_bounds-put_text-start-in-Number c).After-next (Number c.in-Number.start c.in-Number.next) c.in-Number.is in
+    omega (arith, r.ahead, r.wide, r.within)
+
+pub slice_bounds-put_text-end-in-Number : goal.slice_bounds-put_text-end-in-Number
+slice_bounds-put_text-end-in-Number c =
+    let r = read (goal.at.slice_bounds-put_text-end-in-Number c).After-next (Number c.in-Number.start c.in-Number.next) c.in-Number.is in
+    omega (arith, r.ahead, r.wide, r.within)

@@ -1,10 +1,5 @@
--- What the loop keeps, and what it counts down.
-use mathlib.Core.Path.{◌≡◌}
-use lib.ListN.{length}
+-- The number that is left is less each time.
 use Rattle.replay_requests.proofs.statements.put_places.Given as goal
-
-abbrev pub invariant-loop-left : goal.invariant-loop-left
-invariant-loop-left l = length l.out ≡ length l.initial.out
 
 abbrev pub decreases-loop-left : goal.decreases-loop-left
 decreases-loop-left l = l.left

@@ -1,24 +1,24 @@
 -- `replay_requests::statements::put_statement` is safe and ends: its keyword is one of the table, and its lists have at most 64 entries. Assumes nothing.
 use mathlib.Core.Path.{sym, subst}
 use Rattle.replay_requests.proofs.Short.{Short, short}
-use Rattle.replay_requests.proofs.statements.put_statement.Goals.{After-put_keyword-arg-1}
+use Rattle.replay_requests.proofs.statements.put_statement.Goals.{After-parts_of-parts}
 use Rattle.replay_requests.proofs.statements.put_statement.Goals as goal
 
-told : (c : After-put_keyword-arg-1) → Short c.parts_of-parts.result
+told : (c : After-parts_of-parts) → Short c.parts_of-parts.result
 told c =
     subst Short (sym c.parts_of-parts.ensures) (short c.args.statement c.requires)
 
-pub put_keyword-n-requires : goal.put_keyword-n-requires
-put_keyword-n-requires c = (told (goal.at.put_keyword-n-requires c).After-put_keyword-arg-1).known
-
-pub put_part-m-requires : goal.put_part-m-requires
-put_part-m-requires c = (told (goal.at.put_part-m-requires c).After-put_keyword-arg-1).first
-
-pub put_part-k-requires : goal.put_part-k-requires
-put_part-k-requires c = (told (goal.at.put_part-k-requires c).After-put_keyword-arg-1).second
-
-pub put_part-j-requires : goal.put_part-j-requires
-put_part-j-requires c = (told (goal.at.put_part-j-requires c).After-put_keyword-arg-1).third
+pub put_keyword-requires : goal.put_keyword-requires
+put_keyword-requires c = (told (goal.at.put_keyword-requires c).After-parts_of-parts).known
 
 pub put_part-requires : goal.put_part-requires
-put_part-requires c = (told (goal.at.put_part-requires c).After-put_keyword-arg-1).fourth
+put_part-requires c = (told (goal.at.put_part-requires c).After-parts_of-parts).first
+
+pub put_part-requires-2 : goal.put_part-requires-2
+put_part-requires-2 c = (told (goal.at.put_part-requires-2 c).After-parts_of-parts).second
+
+pub put_part-requires-3 : goal.put_part-requires-3
+put_part-requires-3 c = (told (goal.at.put_part-requires-3 c).After-parts_of-parts).third
+
+pub put_part-requires-4 : goal.put_part-requires-4
+put_part-requires-4 c = (told (goal.at.put_part-requires-4 c).After-parts_of-parts).fourth

@@ -1,9 +1,0 @@
--- The loop goes down from the text's end.
-use Rattle.std.proofs.Common.{◌≤◌, length}
-use Rattle.show_input.proofs.reasons.before_number.Given as goal
-
-abbrev pub invariant-loop-at : goal.invariant-loop-at
-invariant-loop-at l = (l.at ≤ length l.text)
-
-abbrev pub decreases-loop-at : goal.decreases-loop-at
-decreases-loop-at l = l.at
