@@ -105,7 +105,7 @@ fn answer_context<'a>(rt: &HostRuntime, wish: Wish, text: &[u8], path: &'a [u8],
     let mut run = [0; 66000];
     match context_file::read_context(file, &mut block, &mut run) {
         Ok(taken) => {
-            let context = taken.context();
+            let context = taken.context(&block, &run);
             answer(
                 rt,
                 wish,

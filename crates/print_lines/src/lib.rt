@@ -22,19 +22,18 @@ use resolve_context::{Layout, Names};
 use tokens::{Classes, Cursor, Token};
 
 // The number of a fault.
-fn number_of(fault: Fault) -> usize
+fn number_of(fault: Fault) -> u8
     ensures { result ≡ number_of fault }
 {
-    fault as usize
+    fault as u8
 }
 
-// `refused`, number and place with single spaces and a newline, from the page's start on.
-fn put_words(page: &mut [u8], number: usize, place: usize) -> usize
-    requires { number ≤ 255 }
+// `refused`, number and place with single spaces and a newline, from the page's start on: of any number.
+pub fn put_words(page: &mut [u8], number: u8, place: usize) -> usize
     ensures { Written page.old 0 (refusal_line number place) page.new result }
 {
     let a = print_writing::put_all(page, 0, b"refused ");
-    let b = print_writing::put_number(page, a, number);
+    let b = print_writing::put_number(page, a, number as usize);
     let c = print_writing::put(page, b, b' ');
     let d = print_writing::put_number(page, c, place);
     print_writing::put(page, d, b'\n')

@@ -2,26 +2,28 @@
 // that knows its record, is a call of it, and has what it says.
 #![tactic(auto)]
 
-ghost use Rattle.std.specs.Prelude.{◌≡◌, ℕ, List, ◌++◌, map, ◌≤◌, length, drop};
+ghost use Rattle.std.specs.Prelude.{◌≡◌, ℕ, List, ◌++◌, map, ◌≤◌, ◌/◌, ◌%◌, length, drop};
 ghost use Rattle.std.specs.Fn.{FnOnceReturnsAt, FnOnceReturnsAtMut};
 ghost use Rattle.record_laws.specs.Call.{Of, Says, Enough};
 
-// Records that can be packed, each in one number.
-pub trait Unpacks: Copy {
-    // What a packed number stands for.
-    ghost unpack: { ℕ → Self };
+// How records are packed, each in one number. It is no trait of the record, which may be a type of another crate, or packed in several ways.
+pub trait Unpacks {
+    type Record: Copy;
 
-    fn unpacked(packed: u32) -> Self
+    // What a packed number stands for.
+    ghost unpack: { ℕ → Self.Record };
+
+    fn unpacked(packed: u32) -> Self::Record
         ensures { result ≡ unpack packed };
 }
 
 // The records of a packed run; those behind them are left as they were.
-pub fn store<R: Unpacks>(records: &mut [R], packed: &[u32])
+pub fn store<U: Unpacks>(records: &mut [U::Record], packed: &[u32])
     requires { length packed.now ≤ length records.old }
-    ensures { records.new ≡ map R.unpack packed.now ++ drop (length packed.now) records.old }
+    ensures { records.new ≡ map U.unpack packed.now ++ drop (length packed.now) records.old }
 {
     for (i, number) in packed.iter().enumerate() {
-        records[i] = R::unpacked(*number);
+        records[i] = U::unpacked(*number);
     }
 }
 
@@ -54,11 +56,13 @@ pub trait PackedCall {
 
     type Output;
 
-    type Record: Unpacks;
+    type Record;
 
     type Note;
 
-    // How many records a word tells of, and what is left of the working buffer.
+    // What a packed number stands for, how many records a word tells of, and what is left of the working buffer.
+    ghost unpack: { ℕ → Self.Record };
+
     ghost counted: { ℕ → ℕ };
 
     ghost finished: { List ℕ → List ℕ };
@@ -93,6 +97,10 @@ pub trait PackedCall {
     fn count(word: u64) -> usize
         ensures { result ≡ counted word };
 
+    fn store(records: &mut [Self::Record], packed: &[u32])
+        requires { length packed.now ≤ length records.old }
+        ensures { records.new ≡ map unpack packed.now ++ drop (length packed.now) records.old };
+
     fn finish(work: &mut [u32])
         ensures { work.new ≡ finished work.old };
 }
@@ -109,7 +117,7 @@ pub fn call<C: PackedCall>(
     work: &mut [u32],
     limit: u32,
 ) -> u64
-    requires { Enough C.Record.unpack C.counted C.finished C.answer_of C.output_of C.records_of C.notes_of C.work_of C.says }
+    requires { Enough C.unpack C.counted C.finished C.answer_of C.output_of C.records_of C.notes_of C.work_of C.says }
     ensures told { result ≡ C.answer_of a.now b.now c.now output.old records.old notes.old work.old limit }
     ensures output_after { output.new ≡ C.output_of a.now b.now c.now output.old records.old notes.old work.old limit }
     ensures records_after { records.new ≡ C.records_of a.now b.now c.now output.old records.old notes.old work.old limit }
@@ -119,7 +127,7 @@ pub fn call<C: PackedCall>(
     let room = records.len();
     let word = C::pack(a, b, c, output, room, notes, work, limit);
     let n = C::count(word);
-    store(records, &work[..n]);
+    C::store(records, &work[..n]);
     C::finish(work);
     word
 }
@@ -132,6 +140,40 @@ mod tests {
     struct Pair {
         left: u8,
         right: u8,
+    }
+
+    // A byte is no type of this crate, and a number may have two of them: what is packed, and how, is said by a type beside the record.
+    struct Low;
+
+    impl Unpacks for Low {
+        type Record = u8;
+
+        ghost unpack = { λ n. n % 256 };
+
+        fn unpacked(n: u32) -> u8 {
+            (n % 256) as u8
+        }
+    }
+
+    struct High;
+
+    impl Unpacks for High {
+        type Record = u8;
+
+        ghost unpack = { λ n. n / 256 % 256 };
+
+        fn unpacked(n: u32) -> u8 {
+            (n / 256 % 256) as u8
+        }
+    }
+
+    #[test]
+    fn any_record_is_stored_by_any_packing(rt: HostRuntime) {
+        let mut bytes = [9; 3];
+        store::<Low>(&mut bytes, &[513, 7]);
+        assert_eq!(rt; bytes, [1, 7, 9]);
+        store::<High>(&mut bytes, &[513]);
+        assert_eq!(rt; bytes, [2, 7, 9]);
     }
 
     // One record is written where the slice is lent, and read where it is shared.

@@ -7,6 +7,7 @@ ghost use Rattle.tokens.specs.Class.{class_table};
 ghost use Rattle.tokens.specs.Spelling.{is_name};
 ghost use Rattle.labels.specs.Word.{same_word};
 ghost use Rattle.text.specs.Lists.{same_bytes, place_in};
+ghost use Rattle.resolving.specs.Context.{kind_number};
 ghost use Rattle.resolving.specs.Effects.{every_form, is_cat, suits as suits·spec};
 ghost use Rattle.resolving.specs.Given.{is_entry, kind_of};
 ghost use Rattle.resolving.specs.Handed.{pair_of, past_all, is_handed};
@@ -59,6 +60,13 @@ impl From<u32> for Kind {
             Kind::Categorical
         }
     }
+}
+
+// The number of a kind in the run.
+pub fn number_of(kind: Kind) -> u32
+    ensures { result ≡ kind_number (kind_as kind) }
+{
+    kind as u32
 }
 
 // Whether all the bytes together are one word or one number.

@@ -2,7 +2,7 @@
 // calls a law of `record_laws`; all work is in functions over numbers.
 #![tactic(auto)]
 
-ghost use Rattle.std.specs.Prelude.{◌≡◌, ◌≤◌, length};
+ghost use Rattle.std.specs.Prelude.{◌≡◌, ◌++◌, map, ◌≤◌, length, drop};
 ghost use Rattle.resolving.specs.Resolve.{ground_text};
 ghost use Rattle.resolving.specs.Call.{resolving_call, lengths_of, output_of, work_after, note_numbers};
 ghost use Rattle.resolve_settling.specs.Answers.{Packed, resolved_as, lengths_as, rooms, lent};
@@ -25,8 +25,12 @@ pub struct Effect {
     pub optional: u8,
 }
 
-// Effects can be packed, each in one number.
-impl Unpacks for Effect {
+// Effects that are packed, each in one number.
+pub struct Effects;
+
+impl Unpacks for Effects {
+    type Record = Effect;
+
     ghost unpack = { unpacked };
 
     fn unpacked(n: u32) -> Effect {
@@ -38,6 +42,14 @@ impl Unpacks for Effect {
             optional: (n % 2) as u8,
         }
     }
+}
+
+// The effects of a packed run; those behind them are left as they were.
+pub fn store_effects(effects: &mut [Effect], packed: &[u32])
+    requires { length packed.now ≤ length effects.old }
+    ensures { effects.new ≡ map unpacked packed.now ++ drop (length packed.now) effects.old }
+{
+    record_laws::store::<Effects>(effects, packed);
 }
 
 fn lengths_word(n: Lengths) -> u64
@@ -104,6 +116,8 @@ impl PackedCall for Resolving {
 
     type Note = [u8; 2];
 
+    ghost unpack = { unpacked };
+
     ghost counted = { effects_told };
 
     ghost finished = { work_after };
@@ -135,6 +149,10 @@ impl PackedCall for Resolving {
 
     fn count(word: u64) -> usize {
         effects_told(word)
+    }
+
+    fn store(effects: &mut [Effect], packed: &[u32]) {
+        store_effects(effects, packed);
     }
 
     fn finish(work: &mut [u32]) {

@@ -9,6 +9,7 @@
 // From it come the block of name bytes and the run of numbers that Resolve takes. What is no name, and what is too much, is left to Resolve.
 use crate::context_names::LISTS;
 pub use crate::entries::Taken;
+use crate::entries::Taking;
 use crate::rows::{self, Row};
 
 // What can be wrong with a context file.
@@ -59,16 +60,12 @@ fn check_rows(file: &[u8]) -> Result<(), Malformed> {
     Ok(())
 }
 
-// The context of a file, for which there are a block and a run; or what is wrong with it.
-pub fn read_context<'a>(
-    file: &[u8],
-    block: &'a mut [u8],
-    run: &'a mut [u32],
-) -> Result<Taken<'a>, Malformed> {
+// The context of a file: how many bytes of the block and how many numbers of the run it has, or what is wrong with it.
+pub fn read_context(file: &[u8], block: &mut [u8], run: &mut [u32]) -> Result<Taken, Malformed> {
     check_rows(file)?;
-    let mut taken = Taken::new(block, run);
+    let mut taking = Taking::new(block, run);
     for list in LISTS {
-        taken.take_list(file, list)?;
+        taking.take_list(file, list)?;
     }
-    Ok(taken)
+    Ok(taking.taken())
 }

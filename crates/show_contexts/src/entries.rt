@@ -3,14 +3,31 @@ use crate::context_file::{Cause, Malformed};
 use crate::context_names::{Context, List};
 use crate::rows::{self, Span};
 use resolve_context::Kind;
-use show_pages::pages::Page;
+use show_pages::pages::{self, Page};
 
 // The block of a context, and its run with so many numbers, as far as they were taken from a file.
 #[derive(Drop)]
-pub struct Taken<'a> {
+pub struct Taking<'a> {
     block: Page<'a>,
     run: &'a mut [u32],
     numbers: usize,
+}
+
+// How many bytes of the block and how many numbers of the run a context has that was taken from a file.
+#[derive(Clone, Copy)]
+pub struct Taken {
+    pub bytes: usize,
+    pub numbers: usize,
+}
+
+impl Taken {
+    // The context that was taken, of the block and the run that were lent.
+    pub fn context<'a>(self, block: &'a [u8], run: &'a [u32]) -> Context<'a> {
+        Context {
+            block: pages::part(block, 0, self.bytes),
+            lists: run.get(..self.numbers).unwrap_or(&[]),
+        }
+    }
 }
 
 // The kind that a word says, ignoring case.
@@ -33,10 +50,10 @@ fn mark_of(list: List) -> Option<usize> {
     }
 }
 
-impl<'a> Taken<'a> {
+impl<'a> Taking<'a> {
     // Nothing of a file: five counts and two marks come before the lists.
-    pub fn new(block: &'a mut [u8], run: &'a mut [u32]) -> Taken<'a> {
-        Taken {
+    pub fn new(block: &'a mut [u8], run: &'a mut [u32]) -> Taking<'a> {
+        Taking {
             block: Page::new(block),
             run,
             numbers: 7,
@@ -91,7 +108,7 @@ impl<'a> Taken<'a> {
             return Err(Cause::UnknownKind.at(word.from));
         };
         self.take_name(file, name)?;
-        self.take_number(kind as usize, entry.from)
+        self.take_number(resolve_context::number_of(kind) as usize, entry.from)
     }
 
     fn take_entry(&mut self, file: &[u8], list: List, entry: Span) -> Result<(), Malformed> {
@@ -118,11 +135,11 @@ impl<'a> Taken<'a> {
         self.set(list as usize, entries, row.word.from)
     }
 
-    // The context that was taken.
-    pub fn context(&self) -> Context<'_> {
-        Context {
-            block: self.block.kept(),
-            lists: self.run.get(..self.numbers).unwrap_or(&[]),
+    // How much was taken.
+    pub fn taken(&self) -> Taken {
+        Taken {
+            bytes: self.block.len(),
+            numbers: self.numbers,
         }
     }
 }

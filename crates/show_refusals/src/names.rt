@@ -37,13 +37,14 @@ fn is_iiv(text: &[u8], operand: Operand) -> bool {
     scenes::spelled(text, token).eq_ignore_ascii_case(b"IIV")
 }
 
-// The first name of the context's IIV parameters that is missing.
+// The first name of the context's IIV parameters that is missing. Where none is, another operand is to blame, and what the run has behind the list is
+// told: the first name of the lists that follow.
 fn put_iiv(page: &mut Page, context: Context, names: Names) {
     page.put_str(" brings ");
     page.put_quoted(
         context
             .first_absent(List::Iiv, held_list(context, names))
-            .unwrap_or(&[]),
+            .unwrap_or(context.name(List::Iiv, context.count(List::Iiv))),
     );
     page.put_str(" from the line iiv of the context, which");
     put_what(page, names);

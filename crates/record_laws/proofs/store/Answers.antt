@@ -10,4 +10,4 @@ loop-i-preserved g c =
     let i = c.loop-i.i in
     let lp : i < length ps = c.loop-i-test.true in
     let ly : i < length ys = omega (arith, lp, c.requires) in
-    rw (c.loop-i.invariant, c.unpacked.ensures, add-one) (one_more g.R.Unpacks.unpack ps ys i lp ly)
+    rw (c.loop-i.invariant, c.unpacked.ensures, add-one) (one_more g.U.Unpacks.unpack ps ys i lp ly)

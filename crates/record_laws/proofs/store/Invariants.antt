@@ -4,4 +4,4 @@ use Rattle.record_laws.proofs.Stored.{stored}
 use Rattle.record_laws.proofs.store.Given as goal
 
 abbrev pub invariant-loop-i : goal.invariant-loop-i
-invariant-loop-i g l = l.records ≡ stored g.R.Unpacks.unpack l.packed l.initial.records l.i
+invariant-loop-i g l = l.records ≡ stored g.U.Unpacks.unpack l.packed l.initial.records l.i
