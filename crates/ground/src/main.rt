@@ -45,7 +45,9 @@ fn explain(
     show_input::write_message(rt, &page)
 }
 
-// What is lawful and yet lost: behind the notes where they are asked for, and for a person otherwise.
+// What is lawful and yet lost: behind the notes where they are asked for, and for a person otherwise. It stays out of its caller, whose frame would
+// hold the tables of the warnings too, on every way.
+#[inline(never)]
 fn warn(
     rt: &HostRuntime,
     buffer: &mut [u8],
