@@ -101,7 +101,8 @@ fn answer(rt: &HostRuntime, wish: Wish, text: &[u8], given: Given) {
     }
 }
 
-// The answer about a text, where the context's file was read.
+// The answer about a text, where the context's file was read. It stays out of its caller too, which has the buffers of what is read alone.
+#[inline(never)]
 fn answer_context<'a>(rt: &HostRuntime, wish: Wish, text: &[u8], path: &'a [u8], file: &'a [u8]) {
     let mut block = io::large_buffer();
     let mut run = [0; 66000];
