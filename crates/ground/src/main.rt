@@ -106,7 +106,7 @@ fn answer(rt: &HostRuntime, wish: Wish, text: &[u8], given: Given) {
 fn answer_context<'a>(rt: &HostRuntime, wish: Wish, text: &[u8], path: &'a [u8], file: &'a [u8]) {
     let mut block = io::large_buffer();
     let mut run = [0; 66000];
-    match context_file::read_context(file, &mut block, &mut run) {
+    match context_file::take_context(file, &mut block, &mut run) {
         Ok(taken) => {
             let context = taken.context(&block, &run);
             answer(

@@ -6,8 +6,19 @@ ghost use Rattle.std.specs.Prelude.{◌≡◌, ℕ, List, ◌++◌, map, ◌≤�
 ghost use Rattle.std.specs.Fn.{FnOnceReturnsAt, FnOnceReturnsAtMut};
 ghost use Rattle.record_laws.specs.Call.{Of, Says, Enough};
 
+use std::marker::PhantomData;
+
+// Records that can be packed, each in one number.
+pub trait Unpacks: Copy {
+    // What a packed number stands for.
+    ghost unpack: { ℕ → Self };
+
+    fn unpacked(packed: u32) -> Self
+        ensures { result ≡ unpack packed };
+}
+
 // How records are packed, each in one number. It is no trait of the record, which may be a type of another crate, or packed in several ways.
-pub trait Unpacks {
+pub trait Packing {
     type Record: Copy;
 
     // What a packed number stands for.
@@ -17,14 +28,35 @@ pub trait Unpacks {
         ensures { result ≡ unpack packed };
 }
 
-// The records of a packed run; those behind them are left as they were.
-pub fn store<U: Unpacks>(records: &mut [U::Record], packed: &[u32])
+// The packing that records say of themselves.
+struct OwnPacking<R>(PhantomData<R>);
+
+impl<R: Unpacks> Packing for OwnPacking<R> {
+    type Record = R;
+
+    ghost unpack = { R.unpack };
+
+    fn unpacked(packed: u32) -> R {
+        R::unpacked(packed)
+    }
+}
+
+// The records of a packed run, by any packing; those behind them are left as they were.
+pub fn store_by<U: Packing>(records: &mut [U::Record], packed: &[u32])
     requires { length packed.now ≤ length records.old }
     ensures { records.new ≡ map U.unpack packed.now ++ drop (length packed.now) records.old }
 {
     for (i, number) in packed.iter().enumerate() {
         records[i] = U::unpacked(*number);
     }
+}
+
+// The records of a packed run, by their own packing.
+pub fn store<R: Unpacks>(records: &mut [R], packed: &[u32])
+    requires { length packed.now ≤ length records.old }
+    ensures { records.new ≡ map R.unpack packed.now ++ drop (length packed.now) records.old }
+{
+    store_by::<OwnPacking<R>>(records, packed);
 }
 
 // A slice that is lent on for a call comes back with what the call left in it.
@@ -145,7 +177,7 @@ mod tests {
     // A byte is no type of this crate, and a number may have two of them: what is packed, and how, is said by a type beside the record.
     struct Low;
 
-    impl Unpacks for Low {
+    impl Packing for Low {
         type Record = u8;
 
         ghost unpack = { λ n. n % 256 };
@@ -157,7 +189,7 @@ mod tests {
 
     struct High;
 
-    impl Unpacks for High {
+    impl Packing for High {
         type Record = u8;
 
         ghost unpack = { λ n. n / 256 % 256 };
@@ -170,10 +202,33 @@ mod tests {
     #[test]
     fn any_record_is_stored_by_any_packing(rt: HostRuntime) {
         let mut bytes = [9; 3];
-        store::<Low>(&mut bytes, &[513, 7]);
+        store_by::<Low>(&mut bytes, &[513, 7]);
         assert_eq!(rt; bytes, [1, 7, 9]);
-        store::<High>(&mut bytes, &[513]);
+        store_by::<High>(&mut bytes, &[513]);
         assert_eq!(rt; bytes, [2, 7, 9]);
+    }
+
+    // A type of this crate says by itself how it is packed, and its records are stored by that, with no other name.
+    impl Unpacks for Pair {
+        ghost unpack = { λ n. record { left = n % 256; right = n / 256 % 256 } };
+
+        fn unpacked(n: u32) -> Pair {
+            Pair {
+                left: (n % 256) as u8,
+                right: (n / 256 % 256) as u8,
+            }
+        }
+    }
+
+    #[test]
+    fn records_are_stored_by_their_own_packing(rt: HostRuntime) {
+        let mut pairs = [Pair { left: 1, right: 2 }; 3];
+        store(&mut pairs, &[513, 7]);
+        assert_eq!(rt; pairs[0].left, 1);
+        assert_eq!(rt; pairs[0].right, 2);
+        assert_eq!(rt; pairs[1].left, 7);
+        assert_eq!(rt; pairs[1].right, 0);
+        assert_eq!(rt; pairs[2].right, 2);
     }
 
     // One record is written where the slice is lent, and read where it is shared.

@@ -10,7 +10,7 @@ ghost use Rattle.resolve_records.specs.Records.{record_of, unpacked};
 ghost use Rattle.resolve_records.specs.Words.{lengths_word, resolved_word, effects_told, Small};
 ghost use Rattle.resolve_records.specs.Stored.{work_says, answer_of, ground_of, effects_of, notes_of, work_of};
 
-use record_laws::{PackedCall, Unpacks};
+use record_laws::{PackedCall, Packing, Unpacks};
 use resolve_settling::{Lengths, Resolved};
 
 // An effect: its parameter and its covariate, each the index of its name's first entry in its list, its form by its place in the family, its
@@ -28,7 +28,7 @@ pub struct Effect {
 // Effects that are packed, each in one number.
 pub struct Effects;
 
-impl Unpacks for Effects {
+impl Packing for Effects {
     type Record = Effect;
 
     ghost unpack = { unpacked };
@@ -44,12 +44,21 @@ impl Unpacks for Effects {
     }
 }
 
+// An effect says by itself that it is packed so.
+impl Unpacks for Effect {
+    ghost unpack = { unpacked };
+
+    fn unpacked(n: u32) -> Effect {
+        Effects::unpacked(n)
+    }
+}
+
 // The effects of a packed run; those behind them are left as they were.
 pub fn store_effects(effects: &mut [Effect], packed: &[u32])
     requires { length packed.now ≤ length effects.old }
     ensures { effects.new ≡ map unpacked packed.now ++ drop (length packed.now) effects.old }
 {
-    record_laws::store::<Effects>(effects, packed);
+    record_laws::store_by::<Effects>(effects, packed);
 }
 
 fn lengths_word(n: Lengths) -> u64
@@ -157,5 +166,23 @@ impl PackedCall for Resolving {
 
     fn finish(work: &mut [u32]) {
         resolve_call::finish(work);
+    }
+}
+
+#[cfg(test)]
+mod tests {
+    use super::*;
+
+    // An effect is stored by its own packing as by that beside it: parameter 1, covariate 2, form 3, `+`, and not optional.
+    #[test]
+    fn effects_are_stored_by_their_own_packing(rt: HostRuntime) {
+        let mut effects = [Effect::unpacked(0); 2];
+        record_laws::store(&mut effects, &[2048 + 64 + 12 + 2]);
+        assert_eq!(rt; effects[0].parameter, 1);
+        assert_eq!(rt; effects[0].covariate, 2);
+        assert_eq!(rt; effects[0].form, 3);
+        assert_eq!(rt; effects[0].operator, 1);
+        assert_eq!(rt; effects[0].optional, 0);
+        assert_eq!(rt; effects[1].parameter, 0);
     }
 }

@@ -8,8 +8,7 @@
 //
 // From it come the block of name bytes and the run of numbers that Resolve takes. What is no name, and what is too much, is left to Resolve.
 use crate::context_names::LISTS;
-pub use crate::entries::Taken;
-use crate::entries::Taking;
+pub use crate::entries::{Taken, Taking};
 use crate::rows::{self, Row};
 
 // What can be wrong with a context file.
@@ -60,12 +59,91 @@ fn check_rows(file: &[u8]) -> Result<(), Malformed> {
     Ok(())
 }
 
+// The context of a file, for which there are a block and a run; or what is wrong with it.
+pub fn read_context<'a>(
+    file: &[u8],
+    block: &'a mut [u8],
+    run: &'a mut [u32],
+) -> Result<Taking<'a>, Malformed> {
+    check_rows(file)?;
+    let mut taking = Taking::new(block, run);
+    for list in LISTS {
+        taking.take_list(file, list)?;
+    }
+    Ok(taking)
+}
+
 // The context of a file: how many bytes of the block and how many numbers of the run it has, or what is wrong with it.
-pub fn read_context(file: &[u8], block: &mut [u8], run: &mut [u32]) -> Result<Taken, Malformed> {
+pub fn take_context(file: &[u8], block: &mut [u8], run: &mut [u32]) -> Result<Taken, Malformed> {
     check_rows(file)?;
     let mut taking = Taking::new(block, run);
     for list in LISTS {
         taking.take_list(file, list)?;
     }
     Ok(taking.taken())
+}
+
+#[cfg(test)]
+mod tests {
+    use super::*;
+    use crate::context_names::List;
+
+    // What was read can be looked at, taken further and looked at again. A list that is taken once more stands behind the others, with its count.
+    #[test]
+    fn a_context_that_was_read_can_be_looked_at_and_taken_further(rt: HostRuntime) {
+        let mut block = [0; 16];
+        let mut run = [0; 16];
+        let read = read_context(b"parameters CL V", &mut block, &mut run);
+        assert!(rt; read.is_ok());
+        let Ok(mut taking) = read else {
+            return;
+        };
+        assert_eq!(rt; taking.context().block, b"CLV".as_slice());
+        assert_eq!(rt;
+            taking.context().lists,
+            [2, 0, 0, 0, 0, 0, 0, 0, 2, 2, 1].as_slice()
+        );
+        assert!(rt; taking.take_list(b"columns WT", List::Columns).is_ok());
+        assert_eq!(rt; taking.context().block, b"CLVWT".as_slice());
+        assert_eq!(rt;
+            taking.context().lists,
+            [2, 0, 0, 0, 1, 0, 0, 0, 2, 2, 1, 3, 2].as_slice()
+        );
+        let taken = taking.taken();
+        assert_eq!(rt; taken.context(&block, &run).block, b"CLVWT".as_slice());
+    }
+
+    // What is wrong is told, and nothing answers for a context.
+    #[test]
+    fn a_row_of_no_list_is_told(rt: HostRuntime) {
+        let mut block = [0; 16];
+        let mut run = [0; 16];
+        assert!(rt;
+            matches!(
+                read_context(b"parameters CL\ncolour WT", &mut block, &mut run),
+                Err(Malformed {
+                    cause: Cause::UnknownRow,
+                    place: 14
+                })
+            )
+        );
+    }
+
+    // A run that has no room for a number is no harm to one who looks.
+    #[test]
+    fn a_run_without_room_can_be_looked_at(rt: HostRuntime) {
+        let mut block = [0; 16];
+        let mut run = [0; 3];
+        let mut taking = Taking::new(&mut block, &mut run);
+        assert!(rt;
+            matches!(
+                taking.take_list(b"columns WT", List::Columns),
+                Err(Malformed {
+                    cause: Cause::TooMuch,
+                    place: 8
+                })
+            )
+        );
+        assert_eq!(rt; taking.context().lists.len(), 0);
+    }
 }

@@ -135,6 +135,14 @@ impl<'a> Taking<'a> {
         self.set(list as usize, entries, row.word.from)
     }
 
+    // The context, as far as it was taken; more can be taken behind it.
+    pub fn context(&self) -> Context<'_> {
+        Context {
+            block: self.block.kept(),
+            lists: self.run.get(..self.numbers).unwrap_or(&[]),
+        }
+    }
+
     // How much was taken.
     pub fn taken(&self) -> Taken {
         Taken {
