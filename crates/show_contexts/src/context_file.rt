@@ -73,7 +73,8 @@ pub fn read_context<'a>(
     Ok(taking)
 }
 
-// The context of a file: how many bytes of the block and how many numbers of the run it has, or what is wrong with it.
+// The context of a file: how many bytes of the block and how many numbers of the run it has, or what is wrong with it. These are the lines of
+// `read_context`, since `ground` takes more instructions by a call of it, which moves what is lent.
 pub fn take_context(file: &[u8], block: &mut [u8], run: &mut [u32]) -> Result<Taken, Malformed> {
     check_rows(file)?;
     let mut taking = Taking::new(block, run);
